@@ -6,7 +6,8 @@ use Rattle.ct_arena.{specs.Seen.Seen, proofs.Fronts.formed_front}
 use Rattle.ct_condition.{specs.Writes.charge, proofs.Writes.{writes_none, writes_both, writes_of}}
 use Rattle.ct_operators.{specs.declared.table.CTable.CTable, specs.declared.error.TableError.TableError, specs.Refusals.is_full}
 use Rattle.ct_table.specs.Denotes.{TableView, heading_of}
-use Rattle.ct_algebra.{specs.Evaluates.Evaluates, specs.Words.{most_rows, unplaced, spared, EachLiteral, PassWrites, GrowsWithin}, proofs.Counted.rows_within, proofs.Putting.fewer_unplaced}
+use Rattle.ct_condition.specs.Writes.{PassWrites}
+use Rattle.ct_algebra.{specs.Evaluates.Evaluates, specs.Words.{most_rows, unplaced, spared, EachLiteral, GrowsWithin}, proofs.Counted.rows_within, proofs.Putting.fewer_unplaced}
 use Rattle.ct_operators.specs.declared.error.TableError.TheVariants as fault
 
 -- terms among others

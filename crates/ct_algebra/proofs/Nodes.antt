@@ -7,7 +7,8 @@ use Rattle.ct_condition.{specs.Places.{has_place, new_literal_words}, specs.Writ
 use Rattle.ct_plan.{specs.Spent.literals, specs.Replaces.Replaces}
 use Rattle.ct_operators.{specs.declared.error.TableError.TableError, specs.Refusals.is_full}
 use Rattle.ct_table.{specs.Counting.count_of, specs.Denotes.{TableView, heading_of}}
-use Rattle.ct_algebra.{specs.Words.{most_words, unplaced, PassWrites, GrowsWithin}, proofs.Appending.charged}
+use Rattle.ct_condition.specs.Writes.{PassWrites}
+use Rattle.ct_algebra.{specs.Words.{most_words, unplaced, GrowsWithin}, proofs.Appending.charged}
 
 -- a literal without a place is put by its words at most
 by_test : (b : Bool) (n : ℕ) → (if b then 0 else n) ≤ n

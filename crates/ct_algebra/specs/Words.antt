@@ -7,7 +7,7 @@ use Rattle.ct_query.specs.Size.{rows_in, row_bound}
 use Rattle.ct_query.specs.Terms.{query_terms}
 use Rattle.ct_arena.specs.Seen.{Seen}
 use Rattle.ct_condition.specs.Places.{new_literal_words}
-use Rattle.ct_condition.specs.Writes.{Writes}
+use Rattle.ct_condition.specs.Writes.{PassWrites}
 use Rattle.ct_plan.specs.Spent.{row_words}
 use Rattle.ct_table.specs.Counting.{count_of}
 use Rattle.ct_table.specs.Denotes.{TableView, heading_of}
@@ -39,10 +39,6 @@ abbrev pub spared : {A : Type 0} → Result A TableError → ℕ → ℕ
 spared (Ok x) n = n
 spared (Err fault.Full) n = 1
 spared (Err fault.Memory) n = 0
-
--- words were added, at most so many made, and fewer where the log was full; the session and the number of its commits are as they were
-abbrev pub PassWrites : ℕ → Seen → Seen → ℕ → Bool → Type 0
-PassWrites cap old new most refused = Writes (λ (p : Seen). p.words) (λ (p : Seen). p.made) (λ (p : Seen). p.session ∷ p.mine ∷ []) (λ (p : Seen). []) cap old new most refused
 
 -- a call that names these terms writes at most those of its literals that have no place, and so many words besides. Of any
 -- literals that have its own among them it puts each once: with those that are left it makes no more than had no place before

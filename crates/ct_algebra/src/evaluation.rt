@@ -20,10 +20,11 @@ ghost use Rattle.ct_operators.specs.Tables.{AreRows, cells_of, value_of_rows};
 ghost use Rattle.ct_table.specs.Counting.{count_of};
 ghost use Rattle.ct_table.specs.Denotes.{heading_of, value_of_tables};
 ghost use Rattle.ct_operators.specs.Terms.{RowsFrom};
+ghost use Rattle.ct_condition.specs.Writes.{PassWrites};
 ghost use Rattle.ct_algebra.specs.Operands.{AreTables, cells_in};
 ghost use Rattle.ct_algebra.specs.Evaluates.{limit, Evaluates};
 ghost use Rattle.ct_algebra.specs.Terms.{TermOfQuery};
-ghost use Rattle.ct_algebra.specs.Words.{PassWrites, SpendsWithin, most_words};
+ghost use Rattle.ct_algebra.specs.Words.{SpendsWithin, most_words};
 ghost use Rattle.ct_algebra.specs.declared.error.EvalError.TheVariants as fault;
 
 use crate::answering::answer;

@@ -13,3 +13,4 @@ pub mod Candidates
 pub mod Always
 pub mod Earlier
 pub mod Nearby
+mod Constants

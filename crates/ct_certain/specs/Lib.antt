@@ -4,3 +4,4 @@ pub mod Own
 pub mod Faults
 pub mod Answered
 pub mod Missing
+pub mod Constants

@@ -126,11 +126,12 @@ fn compared_root<N: Site, I: Interner<N>>(
 }
 
 /// The place of the condition that the global condition holds and a table is not worth a tuple. For one that it has at every
-/// valuation, as is known of the `sure` ones, that is the word false, and the table is not gone over. Each other is compared with
-/// all rows, and at most `r (2k + 2) + k + 1` words are made, where the table has r rows and k columns.
+/// valuation, as is known of the `sure` ones, that is the word false, and the table is not gone over. Any other is compared
+/// with the rows, up to the first that decides, and at most `r (2k + 2) + k + 1` words are made, where the table has r rows and
+/// k columns.
 ///
 /// # Errors
-/// `Full` only where the log has as many words as its capacity, `Memory` where there is none for the rows.
+/// `Full` only where the log has as many words as its capacity, `Memory` where memory runs out.
 pub fn missing_root<N: Site, I: Interner<N>>(
     alloc: Global,
     arena: &Arena<N>,
@@ -154,6 +155,9 @@ pub fn missing_root<N: Site, I: Interner<N>>(
 
 /// A question about a tuple: its root, and a world in which the tuple is missing or a derivation that there is none. A
 /// root that stands in the list already is not asked again; the kept world is changed where that is enough.
+///
+/// # Errors
+/// `Full` only where the log has as many words as its capacity, `Memory` where memory runs out.
 pub fn ask_tuple<N: Site, I: Interner<N>>(
     alloc: Global,
     arena: &Arena<N>,

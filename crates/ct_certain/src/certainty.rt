@@ -129,7 +129,7 @@ fn each_certain<N: Site, I: Interner<N>>(
 /// `r (r (2k + 2) + k + 1)` words are made, where the table has r rows and k columns.
 ///
 /// # Errors
-/// `Full` only where the log has as many words as its capacity, `Memory` where there is none for the list or a question.
+/// `Full` only where the log has as many words as its capacity, `Memory` where memory runs out.
 pub fn certain<N: Site>(
     alloc: Global,
     arena: &Arena<N>,

@@ -41,7 +41,7 @@ fn copied_step(step: &Step) -> Result<Step, AllocError>
 /// A derivation once more.
 ///
 /// # Errors
-/// `Memory` where there is none for it.
+/// `Memory` where memory runs out.
 pub fn copied_derivation(alloc: Global, derivation: &Derivation) -> Result<Derivation, Memory>
     ensures { IfOk result (λ d. d ≡ derivation.now) }
 {

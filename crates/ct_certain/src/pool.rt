@@ -85,6 +85,9 @@ fn keep(
 }
 
 /// What is known before any row is asked for.
+///
+/// # Errors
+/// `Memory` where memory runs out.
 pub fn start(alloc: Global, words: &[u64], global: u32) -> Result<Pool, Memory>
     requires formed { IsWellFormed words.now }
     requires small { length words.now < 2 ^ 28 }
@@ -296,6 +299,9 @@ fn prepare(
 
 /// What a row needs of a known world that shows it. The world in which the nulls of the table differ is made for the first
 /// row that the one without pairs does not show.
+///
+/// # Errors
+/// `Memory` where memory runs out.
 pub fn find(
     alloc: Global,
     words: &[u64],
@@ -368,6 +374,9 @@ fn note(words: &[u64], global: u32, pool: &mut Pool, cond: u32, world: &World) -
 }
 
 /// Puts a world that was found for a condition into the pool.
+///
+/// # Errors
+/// `Memory` where memory runs out.
 pub fn learn(
     alloc: Global,
     words: &[u64],

@@ -52,7 +52,7 @@ fn each_possible<N: Site, I: Interner<N>>(
 /// are rows.
 ///
 /// # Errors
-/// `Full` only where the log has as many words as its capacity, `Memory` where there is none for the list or a question.
+/// `Full` only where the log has as many words as its capacity, `Memory` where memory runs out.
 pub fn possible<N: Site>(
     alloc: Global,
     arena: &Arena<N>,

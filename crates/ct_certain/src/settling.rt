@@ -7,6 +7,7 @@ ghost use Rattle.ct_word.specs.Reading.{condition_at};
 ghost use Rattle.ct_word.specs.Stands.{HasNoColumn};
 ghost use Rattle.ct_word.specs.WellFormed.{IsWellFormed, is_place_of};
 ghost use Rattle.ct_condition.specs.Writes.{Writes};
+ghost use Rattle.ct_near.specs.Conjuncts.{AreBeside};
 ghost use Rattle.ct_rewrite.specs.Tidy.{IsTidy};
 ghost use Rattle.ct_decide.specs.Decided.{DecisionNear, DecisionOf};
 ghost use Rattle.ct_certain.specs.Answered.{AreOf, IsAnswer, IsFound, IsNear, IsNearOwn, IsSettled, IsSettledOwn};
@@ -42,23 +43,26 @@ fn settle(alloc: Global, words: &[u64], root: u32) -> Result<Decision, CertainEr
 }
 
 /// The same, where a known world is near: of the conjuncts of the global condition those are asked about first that have to do
-/// with the rest of the question. No clause says which.
+/// with the rest of the question. No clause says which. The rest are the places `own`, beside the global condition; there are
+/// none where the root does not lead to that condition by ANDs, and the whole is asked.
 fn settle_beside(
     alloc: Global,
     words: &[u64],
     root: u32,
     global: u32,
+    own: Option<&Vec<u32>>,
     near: &Near<'_>,
 ) -> Result<Decision, CertainError>
     requires formed { IsWellFormed words.now }
     requires few { length words.now < 2 ^ 28 }
     requires condition { is_place_of words.now class.Cond root ≡ true }
     requires columns { HasNoColumn words.now root }
+    requires own { IfSome own (λ o. AreBeside words.now root global o.now.items) }
     requires near { IsNear words.now global near.now }
     ensures decided { IfOk result (λ d. DecisionNear words.now root near.now.world.now d) }
     ensures room { is_full result ≡ false }
 {
-    let Some(own) = run_beside(alloc, words, root, global)? else {
+    let Some(own) = own else {
         return settle(alloc, words, root);
     };
     Ok(decide_near(
@@ -78,15 +82,17 @@ fn changed(
     words: &[u64],
     root: u32,
     global: u32,
+    own: Option<&Vec<u32>>,
     near: &Near<'_>,
 ) -> Result<Option<World>, Memory>
     requires formed { IsWellFormed words.now }
     requires few { length words.now < 2 ^ 28 }
     requires condition { is_place_of words.now class.Cond root ≡ true }
+    requires own { IfSome own (λ o. AreBeside words.now root global o.now.items) }
     requires near { IsNear words.now global near.now }
     ensures { IfOk result (λ o. IfSome o (λ v. holds_at v (condition_at words.now root) ≡ true)) }
 {
-    let Some(own) = run_beside(alloc, words, root, global)? else {
+    let Some(own) = own else {
         return repaired(alloc, words, &[root], near.world);
     };
     repaired_near(
@@ -101,6 +107,9 @@ fn changed(
 
 /// A world at which the condition at a place holds, by a change of a near one where that is enough, or a derivation that there
 /// is none.
+///
+/// # Errors
+/// `Memory` where memory runs out.
 pub fn settle_near(
     alloc: Global,
     words: &[u64],
@@ -116,10 +125,11 @@ pub fn settle_near(
     ensures settled { IfOk result (λ d. IsSettled words.now root d) }
     ensures room { is_full result ≡ false }
 {
-    if let Some(world) = changed(alloc, words, root, global, near)? {
+    let own = run_beside(alloc, words, root, global)?;
+    if let Some(world) = changed(alloc, words, root, global, own.as_ref(), near)? {
         return Ok(Decision::World(world));
     }
-    settle_beside(alloc, words, root, global, near)
+    settle_beside(alloc, words, root, global, own.as_ref(), near)
 }
 
 /// A world in order at which the global condition may hold, by a change of the one without pairs; none where that is not
@@ -180,10 +190,11 @@ fn settle_by(
     ensures settled { IfOk result (λ d. IsSettledOwn words.now root global d) }
     ensures room { is_full result ≡ false }
 {
-    match near {
-        Some(near) => settle_beside(alloc, words, root, global, near),
-        None => settle(alloc, words, root),
-    }
+    let Some(near) = near else {
+        return settle(alloc, words, root);
+    };
+    let own = run_beside(alloc, words, root, global)?;
+    settle_beside(alloc, words, root, global, own.as_ref(), near)
 }
 
 /// A world in order at which the global condition holds and a row is shown, if there is one. One word is made for it at
@@ -216,6 +227,9 @@ fn ask<N: Site, I: Interner<N>>(
 
 /// A world in order at which the global condition holds and a row is shown, if there is one: by a change of a near one, or by
 /// a question. Its nulls stand below the global condition or the row's. One word is made for it at most.
+///
+/// # Errors
+/// `Full` only where the log has as many words as its capacity, `Memory` where memory runs out.
 pub fn reach<N: Site, I: Interner<N>>(
     alloc: Global,
     arena: &Arena<N>,

@@ -52,6 +52,9 @@ fn look_for<N: Site, I: Interner<N>>(
 }
 
 /// What a row needs of a world that shows it, if there is one: a known one, or one that is looked for, and known from then on.
+///
+/// # Errors
+/// `Full` only where the log has as many words as its capacity, `Memory` where memory runs out.
 pub fn show<N: Site, I: Interner<N>>(
     alloc: Global,
     arena: &Arena<N>,
@@ -107,7 +110,7 @@ fn terms(alloc: Global, words: &[u64], places: &[u32]) -> Result<List<Term>, Mem
 /// Puts the cells of a row last in a list, with the world that was found for it, if one was.
 ///
 /// # Errors
-/// `Memory` where there is none for them.
+/// `Memory` where memory runs out.
 pub fn list_row(
     alloc: Global,
     words: &[u64],

@@ -69,7 +69,7 @@ pub fn see(
 /// no clause says which are there.
 ///
 /// # Errors
-/// `Memory` where there is none for them.
+/// `Memory` where memory runs out.
 pub fn see_first(
     alloc: Global,
     words: &[u64],

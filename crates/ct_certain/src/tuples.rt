@@ -75,6 +75,9 @@ fn add_tuple(
 }
 
 /// The tuples that rows are worth in a world, each once, in their order.
+///
+/// # Errors
+/// `Memory` where memory runs out.
 pub fn tuples(
     alloc: Global,
     words: &[u64],
@@ -98,7 +101,7 @@ pub fn tuples(
 /// The tuples that rows are worth in a kept world, each once, in their order: those that may be certain.
 ///
 /// # Errors
-/// `Memory` where there is none for them.
+/// `Memory` where memory runs out.
 pub fn kept_tuples(
     alloc: Global,
     words: &[u64],

@@ -1,8 +1,9 @@
 -- What a call does to the words, and to what interning leaves as it was.
-use Rattle.std.specs.Prelude.{◌≡◌, ◌≤◌, ◌+◌, ℕ, Bool, true, List, length, if◌then◌else◌}
+use Rattle.std.specs.Prelude.{◌≡◌, ◌≤◌, ◌+◌, ℕ, Bool, true, List, [], ◌∷◌, length, if◌then◌else◌}
 use Rattle.std.specs.Borrow.{GName}
 use mathlib.Core.List.{IsPrefix}
 use Rattle.ct_word.specs.WellFormed.{IsWellFormed}
+use Rattle.ct_arena.specs.Seen.{Seen}
 
 -- one for a call that was refused, none for another
 abbrev pub charge : Bool → ℕ
@@ -18,3 +19,11 @@ pub record Writes {S : Type 0} (words_of : S → List ℕ) (made_of : S → ℕ)
   pub made : made_of new + charge refused ≤ made_of old + most
   pub kept : kept_of new ≡ kept_of old
   pub lent : lent_of new ≡ lent_of old
+
+-- the session of a pass, and how many commits are its own
+abbrev pub kept_of : Seen → List ℕ
+kept_of p = p.session ∷ p.mine ∷ []
+
+-- the same of a pass alone, which keeps its session and the number of its commits
+abbrev pub PassWrites : ℕ → Seen → Seen → ℕ → Bool → Type 0
+PassWrites cap old new most refused = Writes (λ (p : Seen). p.words) (λ (p : Seen). p.made) kept_of (λ (p : Seen). []) cap old new most refused

@@ -1,7 +1,6 @@
 pub mod Commits
 pub mod Encodes
 pub mod Items
-pub mod Kept
 pub mod Places
 pub mod Printed
 pub mod Rows

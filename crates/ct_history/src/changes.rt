@@ -8,7 +8,7 @@ ghost use Rattle.ct_word.specs.Reading.{IsNameList, IsChangeList, change_list_at
 ghost use Rattle.ct_word.specs.Stands.{StandsAt};
 ghost use Rattle.ct_word.specs.WellFormed.{class_of, is_formed_as, is_place_of};
 ghost use Rattle.ct_history.specs.Encodes.{name_words};
-ghost use Rattle.ct_history.specs.Kept.{PassWrites, kept_of};
+ghost use Rattle.ct_condition.specs.Writes.{PassWrites, kept_of};
 ghost use Rattle.ct_history.specs.Places.{change_of};
 
 use ct_arena::{Arena, Full, Pass, Site};

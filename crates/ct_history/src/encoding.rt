@@ -14,7 +14,7 @@ ghost use Rattle.ct_query.specs.Plain as plain;
 ghost use Rattle.ct_query.specs.Pred.{condition_of};
 ghost use Rattle.ct_query.specs.Views.{action_of};
 ghost use Rattle.ct_history.specs.Encodes.{Adds, AreHanded, IsConditionOf, IsEncodable, condition_words, encode_words, set_words, term_row_words};
-ghost use Rattle.ct_history.specs.Kept.{PassWrites, kept_of};
+ghost use Rattle.ct_condition.specs.Writes.{PassWrites, kept_of};
 ghost use Rattle.ct_history.specs.Places.{rows_at};
 ghost use Rattle.ct_history.specs.Rows.{AreRowsAt, IsNoRow, IsRowOf, row_under};
 

@@ -8,7 +8,7 @@ ghost use Rattle.ct_word.specs.Stands.{StandsAt};
 ghost use Rattle.ct_word.specs.WellFormed.{is_place_of};
 ghost use Rattle.ct_query.specs.Bounds.{characters};
 ghost use Rattle.ct_history.specs.Encodes.{row_words};
-ghost use Rattle.ct_history.specs.Kept.{PassWrites};
+ghost use Rattle.ct_condition.specs.Writes.{PassWrites};
 ghost use Rattle.ct_history.specs.Places.{cells_at, rows_at};
 ghost use Rattle.ct_history.specs.Rows.{AreRowsAt, AreTerms, IsNoRow, IsRowOf, row_under};
 

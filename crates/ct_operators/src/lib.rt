@@ -28,7 +28,7 @@ pub use insertion::insert;
 pub use membership::{except, intersect};
 pub use placing::{cell_for, on_row};
 pub use products::{joined_names, product};
-pub use projection::{pick, pick_names, project};
+pub use projection::{pick, project};
 pub use rows::{names, under};
 pub use selection::select;
 pub use source::RowSource;

@@ -55,14 +55,7 @@ fn pick_each<T: RowSource>(
 }
 
 /// The names at these positions.
-///
-/// # Errors
-/// `AllocError` where there is no memory for them.
-pub fn pick_names(
-    alloc: Global,
-    columns: &[u32],
-    names: &List<Text>,
-) -> Result<List<Text>, AllocError>
+fn pick_names(alloc: Global, columns: &[u32], names: &List<Text>) -> Result<List<Text>, AllocError>
     requires { All (λ k. k < length names.now) columns.now }
     ensures { IfOk result (λ out. out ≡ map (λ k. slice_index_or names.now k []) columns.now) }
 {

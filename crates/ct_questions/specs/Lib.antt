@@ -1,3 +1,2 @@
 pub mod Roots
 pub mod Candidates
-pub mod Writing

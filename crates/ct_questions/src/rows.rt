@@ -5,14 +5,13 @@ ghost use Rattle.std.specs.List.{AllZip};
 ghost use Rattle.ct_word.specs.declared.kinds.Class.TheVariants as class;
 ghost use Rattle.ct_word.specs.Stands.{HasNoColumn};
 ghost use Rattle.ct_word.specs.WellFormed.{IsWellFormed, is_place_of};
-ghost use Rattle.ct_condition.specs.Writes.{Writes};
+ghost use Rattle.ct_condition.specs.Writes.{Writes, PassWrites};
 ghost use Rattle.ct_operators.specs.Tables.{AreRows};
 ghost use Rattle.ct_certain.specs.Answered.{AreOf, IsSettled};
 ghost use Rattle.ct_certain.specs.Faults.{is_full};
 ghost use Rattle.ct_certain.specs.Own.{IsOwn, IsOwnAnswer};
 ghost use Rattle.ct_certain.specs.Possible.{ListsPossible};
 ghost use Rattle.ct_questions.specs.Roots.{AreRowRoots, IsRowRoot};
-ghost use Rattle.ct_questions.specs.Writing.{PassWrites};
 
 use ct_arena::{Arena, Pass, Site};
 use ct_certain::{CertainError, PossibleRow, list_row};

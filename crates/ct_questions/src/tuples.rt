@@ -7,14 +7,13 @@ ghost use Rattle.ct_word.specs.declared.values.CRow.{CRow};
 ghost use Rattle.ct_word.specs.Stands.{HasNoColumn};
 ghost use Rattle.ct_word.specs.Value.{World, same_tuple};
 ghost use Rattle.ct_word.specs.WellFormed.{IsWellFormed, is_place_of};
-ghost use Rattle.ct_condition.specs.Writes.{Writes};
+ghost use Rattle.ct_condition.specs.Writes.{Writes, PassWrites};
 ghost use Rattle.ct_operators.specs.Tables.{AreRows, firsts, value_of_rows};
 ghost use Rattle.ct_certain.specs.Answered.{IsSettled};
 ghost use Rattle.ct_certain.specs.Certain.{IsCutProof, IsKeptWorld, ListsCertain};
 ghost use Rattle.ct_certain.specs.Faults.{is_full};
 ghost use Rattle.ct_certain.specs.Missing.{IsAskedOf, IsSure, is_in_each};
 ghost use Rattle.ct_questions.specs.Candidates.{AreCandidates, IsCandidate, proof_of, tuples_of};
-ghost use Rattle.ct_questions.specs.Writing.{PassWrites};
 
 use ct_arena::{Arena, Pass, Site};
 use ct_certain::{

@@ -2,11 +2,12 @@
 use Rattle.std.{proofs.Common.{◌≡◌, ℕ, zero, suc, true, false, List, [], ◌∷◌, length, refl, sym, subst, ◌∙◌}, specs.Prelude.{IsTrue, replicate}}
 use Rattle.std.{specs.List.{list_all, AllZip, IsDistinct}, proofs.lemmas.Bool.{false≢true, and_parts}}
 use Rattle.ct_word.{specs.Condition.{Condition, True}, specs.Reading.condition_at, specs.WellFormed.{IsWellFormed, is_place_of}}
-use Rattle.ct_rewrite.{specs.declared.answer.Node.Node, specs.declared.shape.Shape.Shape, specs.Nodes.{node_condition, is_position, same_node}}
-use Rattle.ct_rewrite.{specs.Shape.{condition_of, is_true_at, is_true_shape, shape_at}, proofs.Shaped.shaped}
+use Rattle.ct_worlds.{specs.declared.shape.Shape.Shape, specs.Shape.{condition_of, shape_at}, proofs.Shaped.shaped}
+use Rattle.ct_rewrite.{specs.declared.answer.Node.Node, specs.Nodes.{node_condition, is_position, same_node}}
+use Rattle.ct_rewrite.specs.Plain.{is_true_at, is_true_shape}
 use Rattle.ct_word.specs.declared.kinds.Class.TheVariants as class
 use Rattle.ct_rewrite.specs.declared.answer.Node.TheVariants as node
-use Rattle.ct_rewrite.specs.declared.shape.Shape.TheVariants as shape
+use Rattle.ct_worlds.specs.declared.shape.Shape.TheVariants as shape
 
 -- the node list of the condition true
 abbrev one_true : List Node

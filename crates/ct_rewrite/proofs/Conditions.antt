@@ -1,10 +1,10 @@
 -- What the positions of conditions stand for.
-use Rattle.std.{proofs.Common.{◌≡◌, ℕ, ◌≤◌, Bool, true, List, [], ◌∷◌, length, map, refl, ap, sym, ◌∙◌, subst, arith}, specs.Prelude.IsTrue, specs.BTreeMap.BTreeMap}
+use Rattle.std.{proofs.Common.{◌≡◌, ℕ, ◌≤◌, Bool, true, List, [], ◌∷◌, length, map, refl, ap, sym, ◌∙◌, subst, arith}, specs.Prelude.IsTrue}
 use Rattle.std.{specs.List.{AllByRecursion, list_all, AllZip}, proofs.lemmas.Bool.{and_from, lt-ltb}}
 use Rattle.ct_word.{specs.declared.values.Term.Term, specs.Condition.{Condition, SameTruth}, specs.Reading.condition_at}
 use Rattle.ct_rewrite.{specs.declared.answer.Node.Node, specs.Nodes.{node_condition, is_position}, specs.Moving.IsKept}
-use Rattle.ct_rewrite.{specs.Building.Says, specs.Below.HasAt, specs.Signs.{IsFormAt, number, position_of, position_at}, proofs.Signs.{says_number, fits_number}, proofs.Sizes.{nest_lower, text_shorter}}
-use Rattle.ct_rewrite.{proofs.Closing.there_have, specs.Sizes.{Fits, NoneIsEmpty, deep, nest_of, text_of, wide}}
+use Rattle.ct_rewrite.{specs.Building.Says, specs.Below.{HasAt, Placement, position_at}, specs.Signs.{IsFormAt, number}, proofs.Signs.{says_number, fits_number}, proofs.Sizes.{nest_lower, text_shorter}}
+use Rattle.ct_rewrite.{proofs.Finding.there_have, specs.Sizes.{Fits, NoneIsEmpty, deep, nest_of, text_of, wide}}
 
 -- the number of the condition at a place
 abbrev plus : ℕ → ℕ
@@ -16,14 +16,12 @@ record Stands (ns : List Node) (k : ℕ) (c : Condition) : Type 0 where
   fits : Fits (node_condition ns k) c
 
 -- the positions of the roots stand for the conditions at their places
-roots_stand : (ws : List ℕ) (ns : List Node) (fs : BTreeMap ℕ ℕ) (roots : List ℕ) → AllByRecursion (HasAt (IsFormAt ws ns) fs) (map plus roots)
+roots_stand : (ws : List ℕ) (ns : List Node) (fs : Placement) (roots : List ℕ) → AllByRecursion (HasAt (IsFormAt ws ns) fs) (map plus roots)
     → AllZip (λ k p. Stands ns k (condition_at ws p)) (map (position_at fs) (map plus roots)) roots
 roots_stand ws ns fs [] h = tt
 roots_stand ws ns fs (r ∷ roots) h =
-    let m = h.0.value in (
-      subst (λ k. Stands ns k (condition_at ws r)) (sym (ap position_of h.0.at)) (record { says = says_number ws ns r true m h.0.is; fits = fits_number ws ns r true m h.0.is }),
-      roots_stand ws ns fs roots h.1,
-    )
+    let m = position_at fs (plus r) in
+    (record { says = says_number ws ns r true m h.0; fits = fits_number ws ns r true m h.0 }, roots_stand ws ns fs roots h.1)
 
 -- positions that stand for the conditions, and those at which they were kept
 module _ (ws : List ℕ) (ns out : List Node) (P : Condition → Condition → Type 0) (says : (k : ℕ) (c : Condition) → Stands ns k c → P (node_condition ns k) c) where
@@ -48,7 +46,7 @@ stand_placed ws ns [] (p ∷ ps) h = absurd h
 stand_placed ws ns (k ∷ ks) [] h = absurd h
 stand_placed ws ns (k ∷ ks) (p ∷ ps) h = and_from _ _ (lt-ltb k (length ns) h.0.says.within) (stand_placed ws ns ks ps h.1)
 
-module _ (ws : List ℕ) (ns read : List Node) (fs : BTreeMap ℕ ℕ) (there : ℕ → Bool) (roots numbers ks : List ℕ) (forms : (k : ℕ) → IsTrue (there k) → HasAt (IsFormAt ws ns) fs k)
+module _ (ws : List ℕ) (ns read : List Node) (fs : Placement) (there : ℕ → Bool) (roots numbers ks : List ℕ) (forms : (k : ℕ) → IsTrue (there k) → HasAt (IsFormAt ws ns) fs k)
     (by : numbers ≡ map plus roots) (led : IsTrue (list_all there numbers)) (seen : read ≡ ns) (found : ks ≡ map (position_at fs) numbers) where
   all_stand : AllZip (λ k p. Stands read k (condition_at ws p)) ks roots
   all_stand =

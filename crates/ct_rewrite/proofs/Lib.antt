@@ -1,4 +1,5 @@
-pub mod Shaped
+pub mod Passing
+pub mod Finding
 pub mod Closing
 pub mod Nodes
 pub mod Results

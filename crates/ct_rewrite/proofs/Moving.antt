@@ -1,12 +1,13 @@
 -- What keeping nodes at new positions keeps.
-use Rattle.std.proofs.Common.{◌≡◌, ℕ, ◌+◌, ◌<◌, ◌≤◌, Bool, List, [], ◌∷◌, length, map, get_or, nat_lt, Some, None, refl, ap, sym, ◌∙◌, subst, arith, length-append}
-use Rattle.std.{specs.Prelude.{IsTrue, Option, slice_get, unwrap_or}, specs.List.{AllByRecursion, list_all, AllZip, IsDistinct}, specs.Ordering.nat_cmp}
-use Rattle.std.{specs.BTreeMap.{BTreeMap, Updates}, proofs.lemmas.Bool.{and_parts, and_from, ltb-true, lt-ltb}, proofs.lemmas.Option.slice_get-get_or}
+use Rattle.std.proofs.Common.{◌≡◌, ℕ, ◌+◌, ◌<◌, ◌≤◌, List, [], ◌∷◌, ◌++◌, length, map, take, get_or, nat_lt, Some, None, refl, ap, sym, ◌∙◌, subst, arith, length-append}
+use Rattle.std.{specs.Prelude.{IsTrue, Option, slice_get}, specs.List.{AllByRecursion, list_all, AllZip, IsDistinct}}
+use Rattle.ct_worlds.specs.Truths.{AreRising}
+use Rattle.std.{proofs.lemmas.Bool.{and_parts, and_from, ltb-true, lt-ltb}, proofs.lemmas.Option.slice_get-get_or, proofs.lemmas.List.Elements.Contains-get_or}
 use Rattle.ct_word.specs.Condition.{And, Or, listed}
-use Rattle.ct_rewrite.{specs.declared.answer.Node.Node, specs.Below.{IsClosedFrom, IsDownward, IsFirstFrom, HasAt, has_at}, specs.Building.Grows}
+use Rattle.ct_rewrite.{specs.declared.answer.Node.Node, specs.Below.{IsClosedFrom, IsDownward, HasAt, Placement, has, position_at}, specs.Building.Grows}
 use Rattle.ct_rewrite.specs.Nodes.{IsOrdered, children_of, is_position, stands_over, nth, read_nodes, node_value, node_condition, same_node}
-use Rattle.ct_rewrite.{specs.Moving.{children_of_one, children_at, moved_to, moved_node, IsKept}, specs.Rules.{has_no_literals, is_proper, are_distinct}}
-use Rattle.ct_rewrite.{proofs.Nodes.{condition_of_position, condition_stays, stands_at, below_more}, proofs.Closing.{all_have, have_parts, have_more}}
+use Rattle.ct_rewrite.{specs.Moving.{children_of_one, children_at, moved_node, IsKept}, specs.Rules.{has_no_literals, is_proper, are_distinct}}
+use Rattle.ct_rewrite.{proofs.Nodes.{condition_of_position, condition_stays, stands_at, below_more}, proofs.Finding.{have_parts, have_more}, proofs.Passing.any_of}
 use Rattle.ct_rewrite.{proofs.Literals.literals_at, proofs.Rules.{proper_at, moved_proper, children_distinct}, proofs.Distinct.{distinct_mapped, one_condition}}
 use Rattle.ct_rewrite.specs.declared.answer.Node.TheVariants as node
 
@@ -37,17 +38,14 @@ still_kept nodes out new g k j h = record {
   same = ap (λ (xs : List Node). node_condition xs j) g.is ∙ condition_stays out g.added j h.within ∙ h.same;
 }
 
-module _ (nodes out : List Node) (ps : BTreeMap ℕ ℕ) where
+module _ (nodes out : List Node) (ps : Placement) where
   -- a position has gone to one of the same condition
   abbrev IsMoved : ℕ → Type 0
   IsMoved k = HasAt (IsKept nodes out) ps k
 
-  kept_at : (k : ℕ) → IsMoved k → IsKept nodes out k (moved_to ps k)
-  kept_at k h = subst (IsKept nodes out k) (sym (ap (λ o. unwrap_or o 0) h.at)) h.is
-
-  moved_children : (ks : List ℕ) → AllByRecursion IsMoved ks → map (nth (read_nodes [] out)) (map (moved_to ps) ks) ≡ map (nth (read_nodes [] nodes)) ks
+  moved_children : (ks : List ℕ) → AllByRecursion IsMoved ks → map (nth (read_nodes [] out)) (map (position_at ps) ks) ≡ map (nth (read_nodes [] nodes)) ks
   moved_children [] h = refl
-  moved_children (k ∷ ks) h = λ i. (kept_at k h.0).same i ∷ moved_children ks h.1 i
+  moved_children (k ∷ ks) h = λ i. h.0.same i ∷ moved_children ks h.1 i
 
   -- a moved node is the condition that it was
   moved_value : (n : Node) → AllByRecursion IsMoved (children_of n) → node_value out (moved_node ps n) ≡ node_value nodes n
@@ -58,9 +56,9 @@ module _ (nodes out : List Node) (ps : BTreeMap ℕ ℕ) where
   moved_value (node.Eq s t) h = refl
   moved_value (node.Ne s t) h = refl
 
-  moved_below : (ks : List ℕ) → AllByRecursion IsMoved ks → IsTrue (list_all (λ c. nat_lt c (length out)) (map (moved_to ps) ks))
+  moved_below : (ks : List ℕ) → AllByRecursion IsMoved ks → IsTrue (list_all (λ c. nat_lt c (length out)) (map (position_at ps) ks))
   moved_below [] h = refl
-  moved_below (k ∷ ks) h = and_from _ _ (lt-ltb _ _ (kept_at k h.0).within) (moved_below ks h.1)
+  moved_below (k ∷ ks) h = and_from _ _ (lt-ltb _ _ h.0.within) (moved_below ks h.1)
 
   moved_over : (n : Node) → AllByRecursion IsMoved (children_of n) → IsTrue (stands_over (length out) (moved_node ps n))
   moved_over (node.And ks) h = moved_below ks h
@@ -72,33 +70,40 @@ module _ (nodes out : List Node) (ps : BTreeMap ℕ ℕ) where
 
   -- children go to positions of their own
   moved_apart : IsOrdered nodes → IsDistinct same_node nodes → (ks : List ℕ) → AllByRecursion IsMoved ks → IsTrue (list_all (is_position nodes) ks) → IsTrue (are_distinct ks)
-      → IsTrue (are_distinct (map (moved_to ps) ks))
-  moved_apart ordered distinct ks h e d = distinct_mapped (moved_to ps) (λ k. IsMoved k × (k < length nodes)) tells ks (both_hold ks h e) d where
+      → IsTrue (are_distinct (map (position_at ps) ks))
+  moved_apart ordered distinct ks h e d = distinct_mapped (position_at ps) (λ k. IsMoved k × (k < length nodes)) tells ks (both_hold ks h e) d where
     both_hold : (xs : List ℕ) → AllByRecursion IsMoved xs → IsTrue (list_all (is_position nodes) xs) → AllByRecursion (λ k. IsMoved k × (k < length nodes)) xs
     both_hold [] f g = tt
     both_hold (x ∷ xs) f g =
         let p = and_parts (is_position nodes x) (list_all (is_position nodes) xs) g in ((f.0, ltb-true x (length nodes) p.0), both_hold xs f.1 p.1)
 
-    tells : (a b : ℕ) → IsMoved a × (a < length nodes) → IsMoved b × (b < length nodes) → moved_to ps a ≡ moved_to ps b → a ≡ b
+    tells : (a b : ℕ) → IsMoved a × (a < length nodes) → IsMoved b × (b < length nodes) → position_at ps a ≡ position_at ps b → a ≡ b
     tells a b f g same =
-        one_condition nodes ordered distinct a b f.1 g.1 (sym (kept_at a f.0).same ∙ ap (node_condition out) same ∙ (kept_at b g.0).same)
+        one_condition nodes ordered distinct a b f.1 g.1 (sym f.0.same ∙ ap (node_condition out) same ∙ g.0.same)
 
-  roots_moved : (roots : List ℕ) → AllByRecursion IsMoved roots → AllZip (λ j k. IsKept nodes out k j) (map (moved_to ps) roots) roots
+  roots_moved : (roots : List ℕ) → AllByRecursion IsMoved roots → AllZip (λ j k. IsKept nodes out k j) (map (position_at ps) roots) roots
   roots_moved [] h = tt
-  roots_moved (r ∷ roots) h = (kept_at r h.0, roots_moved roots h.1)
+  roots_moved (r ∷ roots) h = (h.0, roots_moved roots h.1)
 
   -- the roots, once all positions have gone
-  pub roots_kept : (final : List Node) (roots js : List ℕ) → AllByRecursion IsMoved roots → final ≡ out → js ≡ map (moved_to ps) roots
+  pub roots_kept : (final : List Node) (roots js : List ℕ) → AllByRecursion IsMoved roots → final ≡ out → js ≡ map (position_at ps) roots
       → AllZip (λ j k. IsKept nodes final k j) js roots
   roots_kept final roots js h e f =
       subst (λ (xs : List ℕ). AllZip (λ j k. IsKept nodes final k j) xs roots) (sym f)
-      (subst (λ (xs : List Node). AllZip (λ j k. IsKept nodes xs k j) (map (moved_to ps) roots) roots) (sym e) (roots_moved roots h))
+      (subst (λ (xs : List Node). AllZip (λ j k. IsKept nodes xs k j) (map (position_at ps) roots) roots) (sym e) (roots_moved roots h))
 
   -- the node at the next position
-  module _ (there : ℕ → Bool) (low i : ℕ) (n : Node) (ordered : IsOrdered nodes) (inside : (k : ℕ) → IsTrue (there k) → IsTrue (is_position nodes k))
-      (closed : IsClosedFrom (children_at nodes) 0 there) (kept : (k : ℕ) → IsTrue (there k) → k < low → IsMoved k) (next : IsFirstFrom there low i) (is : n ≡ get_or nodes i n) where
+  module _ (there : List ℕ) (up : AreRising there) (at : ℕ) (n : Node) (ordered : IsOrdered nodes) (inside : (k : ℕ) → IsTrue (has there k) → IsTrue (is_position nodes k))
+      (closed : IsClosedFrom (children_at nodes) 0 (has there)) (kept : (k : ℕ) → IsTrue (has (take at there) k) → IsMoved k) (lt : at < length there) (is : n ≡ get_or nodes (get_or there at 0) n) where
+    -- the next position
+    abbrev pub i : ℕ
+    i = get_or there at 0
+
+    placed : IsTrue (has there i)
+    placed = any_of there i (Contains-get_or there at 0 lt)
+
     pub step_within : i < length nodes
-    step_within = ltb-true i (length nodes) (inside i next.placed)
+    step_within = ltb-true i (length nodes) (inside i placed)
 
     at_place : slice_get nodes i ≡ Some n
     at_place = node_there nodes i n step_within is
@@ -107,11 +112,8 @@ module _ (nodes out : List Node) (ps : BTreeMap ℕ ℕ) where
     over = stands_at nodes i n ordered at_place
 
     children : AllByRecursion IsMoved (children_of n)
-    children = have_parts (IsKept nodes out) ps there low kept i next.first (children_of n) over
-        (subst (λ ks. IsTrue (list_all there ks)) (ap children_of_one at_place) (closed i (omega arith) next.placed))
-
-    pub step_has : IsTrue (list_all (has_at ps) (children_of n))
-    step_has = all_have (IsKept nodes out) ps (children_of n) children
+    children = have_parts (IsKept nodes out) ps there up at kept lt (children_of n) over
+        (subst (λ ks. IsTrue (list_all (has there) ks)) (ap children_of_one at_place) (closed i (omega arith) placed))
 
     module _ (m : Node) (copy : m ≡ moved_node ps n) where
       pub step_over : IsTrue (stands_over (length out) m)
@@ -130,7 +132,7 @@ module _ (nodes out : List Node) (ps : BTreeMap ℕ ℕ) where
       pub step_literals : IsTrue (list_all has_no_literals (read_nodes [] nodes)) → IsTrue (has_no_literals (node_value out m))
       step_literals all = subst (λ d. IsTrue (has_no_literals d)) (sym same_value) (literals_at nodes i all)
 
-      pub step_kept : (new : List Node) (qs : BTreeMap ℕ ℕ) (j : ℕ) → Grows out new → j < length new → node_condition new j ≡ node_value out m → Updates nat_cmp ps qs i (Some j)
-          → (k : ℕ) → IsTrue (there k) → k < i + 1 → HasAt (IsKept nodes new) qs k
-      step_kept new qs j g within value put =
-          have_more (IsKept nodes out) ps there low kept i next.first (IsKept nodes new) (still_kept nodes out new g) qs j put (record { within = within; same = value ∙ same_value })
+      pub step_kept : ps.places ≡ there → length ps.positions ≡ at → (new : List Node) (qs : Placement) (j : ℕ) → Grows out new → j < length new → node_condition new j ≡ node_value out m
+          → qs.places ≡ ps.places → qs.positions ≡ ps.positions ++ j ∷ [] → (k : ℕ) → IsTrue (has (take (at + 1) there) k) → HasAt (IsKept nodes new) qs k
+      step_kept same long new qs j g within value places put =
+          have_more (IsKept nodes out) ps there up at kept lt same long (IsKept nodes new) (still_kept nodes out new g) qs j places put (record { within = within; same = value ∙ same_value })

@@ -1,9 +1,9 @@
 -- What is kept of the nodes that the printed form allows.
 use Rattle.std.{proofs.Common.{◌≡◌, ℕ, zero, suc, ◌+◌, ◌≤◌, true, ◌&&◌, List, [], ◌∷◌, length, map, Some, refl, sym, subst, arith}, specs.List.list_all}
-use Rattle.std.{specs.Prelude.{IsTrue, slice_get, sum_by}, specs.BTreeMap.BTreeMap, proofs.lemmas.Bool.{and_parts, and_from}, proofs.lemmas.List.length-map}
+use Rattle.std.{specs.Prelude.{IsTrue, slice_get, sum_by}, proofs.lemmas.Bool.{and_parts, and_from}, proofs.lemmas.List.length-map}
 use Rattle.std.proofs.lemmas.List.Sums.{sum_by-cons}
 use Rattle.ct_rewrite.{specs.declared.answer.Node.Node, specs.Nodes.children_of, specs.Building.joint_node, specs.Joining.HasNoMoreThan}
-use Rattle.ct_rewrite.specs.Moving.{moved_to, moved_node}
+use Rattle.ct_rewrite.{specs.Moving.moved_node, specs.Below.{Placement, position_at}}
 use Rattle.ct_rewrite.specs.Rules.{is_count_of_children, is_proper, are_children_within, are_sides_in_order, is_unsettled, are_distinct, are_children_distinct}
 use Rattle.ct_word.specs.declared.connectives.Connective.{Connective}
 use Rattle.ct_rewrite.specs.declared.answer.Node.TheVariants as node
@@ -18,11 +18,11 @@ no_longer all ks ls read most same once few =
     omega (arith, subst (HasNoMoreThan all ks) same once (λ x. 1), counted all, counted ks, counted ls, few)
 
 -- a node keeps what makes it proper when its children go elsewhere, each to a place of its own
-pub moved_proper : (ps : BTreeMap ℕ ℕ) (n : Node) → IsTrue (is_proper n) → IsTrue (are_distinct (map (moved_to ps) (children_of n))) → IsTrue (is_proper (moved_node ps n))
+pub moved_proper : (ps : Placement) (n : Node) → IsTrue (is_proper n) → IsTrue (are_distinct (map (position_at ps) (children_of n))) → IsTrue (is_proper (moved_node ps n))
 moved_proper ps (node.And ks) e d =
-    and_from _ _ (subst (λ m. IsTrue (is_count_of_children m && true && true)) (sym (length-map ks (moved_to ps))) (and_parts (is_count_of_children (length ks) && true && true) (are_distinct ks) e).0) d
+    and_from _ _ (subst (λ m. IsTrue (is_count_of_children m && true && true)) (sym (length-map ks (position_at ps))) (and_parts (is_count_of_children (length ks) && true && true) (are_distinct ks) e).0) d
 moved_proper ps (node.Or ks) e d =
-    and_from _ _ (subst (λ m. IsTrue (is_count_of_children m && true && true)) (sym (length-map ks (moved_to ps))) (and_parts (is_count_of_children (length ks) && true && true) (are_distinct ks) e).0) d
+    and_from _ _ (subst (λ m. IsTrue (is_count_of_children m && true && true)) (sym (length-map ks (position_at ps))) (and_parts (is_count_of_children (length ks) && true && true) (are_distinct ks) e).0) d
 moved_proper ps node.True e d = e
 moved_proper ps node.False e d = e
 moved_proper ps (node.Eq s t) e d = e

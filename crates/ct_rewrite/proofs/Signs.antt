@@ -4,12 +4,13 @@ use Rattle.std.{specs.Prelude.{IsTrue, if◌then◌else◌}, specs.List.{AllByRe
 use Rattle.ct_word.{specs.declared.values.Value.Value, specs.Value.World, specs.declared.connectives.Connective.Connective}
 use Rattle.ct_word.{specs.Condition.{Condition, Not, holds, SameTruth}, specs.Connective.{joined, join, dual}, proofs.Joins.{joined_holds, denied_join}}
 use Rattle.ct_word.{specs.WellFormed.{IsWellFormed, is_place_of}, specs.Reading.condition_at, proofs.Growth.place_within}
-use Rattle.ct_rewrite.{specs.declared.answer.Node.Node, specs.declared.shape.Shape.Shape, specs.Nodes.node_condition, specs.Building.{Grows, Says, literal, signed}}
-use Rattle.ct_rewrite.{specs.Signs.{number, is_plus, is_number, signed_at, named_by, named_at, connective_for, IsFormAt}, specs.Shape.{parts_of, shape_at, IsEarlier}, specs.Below.IsDownward}
-use Rattle.ct_rewrite.{specs.Sizes.Fits, proofs.Nodes.condition_stays, proofs.Shaped.shaped, proofs.Sizes.{fits_as, literal_fits}}
+use Rattle.ct_worlds.{specs.declared.shape.Shape.Shape, specs.Shape.{literal, parts_of, shape_at, IsEarlier}, proofs.Shaped.shaped}
+use Rattle.ct_rewrite.{specs.declared.answer.Node.Node, specs.Nodes.node_condition, specs.Building.{Grows, Says, signed}}
+use Rattle.ct_rewrite.{specs.Signs.{number, is_plus, is_number, signed_at, named_by, named_at, connective_for, IsFormAt}, specs.Below.IsDownward}
+use Rattle.ct_rewrite.{specs.Sizes.Fits, proofs.Nodes.condition_stays, proofs.Sizes.{fits_as, literal_fits}}
 use Rattle.ct_word.specs.declared.kinds.Class.TheVariants as class
 use Rattle.ct_word.specs.declared.connectives.Connective.TheVariants as connective
-use Rattle.ct_rewrite.specs.declared.shape.Shape.TheVariants as shape
+use Rattle.ct_worlds.specs.declared.shape.Shape.TheVariants as shape
 
 -- the place and the sign of a number
 pub number_half : (p : ℕ) (s : Bool) → number p s / 2 ≡ p

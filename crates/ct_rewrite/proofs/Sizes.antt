@@ -5,7 +5,8 @@ use Rattle.std.proofs.lemmas.List.Sums.{sum_by-cons, sum_by-insert, sum_by_more}
 use Rattle.ct_word.{specs.declared.values.Term.Term, specs.Condition.{Condition, True, False, Same, Not, And, Or, listed}, specs.Connective.joined}
 use Rattle.ct_word.{specs.declared.connectives.Connective.Connective, proofs.Items.all_implied}
 use Rattle.ct_rewrite.{specs.declared.answer.Node.Node, specs.Nodes.{nth, condition_of_node, read_nodes, node_condition, node_value}}
-use Rattle.ct_rewrite.specs.Building.{literal, joint_node}
+use Rattle.ct_worlds.specs.Shape.{literal}
+use Rattle.ct_rewrite.specs.Building.{joint_node}
 use Rattle.ct_rewrite.specs.Joining.{HasMembersOf, HasNoMoreThan, AreNoLarger, IsNoLarger, bytes_under, gap, nests_within}
 use Rattle.ct_rewrite.specs.Sizes.{as_part, text_of, text_of_parts, text_of_others, nest_of, nest_of_parts, wide, deep, part_length, part_nest, Fits}
 use Rattle.ct_word.specs.declared.connectives.Connective.TheVariants as connective

@@ -1,6 +1,6 @@
 -- What the making of a node list keeps and adds.
 use Rattle.std.specs.Prelude.{◌≡◌, ℕ, ◌<◌, Bool, true, false, List, ◌++◌, length}
-use Rattle.ct_word.specs.Condition.{Condition, True, False, Not, SameTruth}
+use Rattle.ct_word.specs.Condition.{Condition, Not, SameTruth}
 use Rattle.ct_rewrite.specs.declared.answer.Node.{Node}
 use Rattle.ct_rewrite.specs.declared.answer.Node.TheVariants as node
 use Rattle.ct_word.specs.declared.connectives.Connective.{Connective}
@@ -16,11 +16,6 @@ pub record Grows (old new : List Node) : Type 0 where
 pub record Says (nodes : List Node) (k : ℕ) (c : Condition) : Type 0 where
   pub within : k < length nodes
   pub truth : SameTruth (node_condition nodes k) c
-
--- a condition that has always this truth
-abbrev pub literal : Bool → Condition
-literal true = True
-literal false = False
 
 -- a condition for plus, and what denies it for minus
 abbrev pub signed : Bool → Condition → Condition

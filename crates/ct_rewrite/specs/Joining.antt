@@ -11,7 +11,7 @@ use Rattle.ct_word.specs.declared.connectives.Connective.{Connective}
 use Rattle.ct_word.specs.declared.connectives.Connective.TheVariants as connective
 use Rattle.ct_rewrite.specs.Nodes.{node_condition, condition_of_node, is_position}
 use Rattle.ct_word.specs.Connective.{unit, open_by}
-use Rattle.ct_rewrite.specs.Building.{literal}
+use Rattle.ct_worlds.specs.Shape.{literal}
 use Rattle.ct_rewrite.specs.Rules.{is_literal, are_distinct}
 use Rattle.ct_rewrite.specs.Sizes.{part_length, part_nest}
 

@@ -2,7 +2,7 @@ pub mod Nodes
 pub mod History
 pub mod Sizes
 pub mod Building
-pub mod Shape
+pub mod Plain
 pub mod Below
 pub mod Signs
 pub mod Joining

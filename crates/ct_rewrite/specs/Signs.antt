@@ -1,7 +1,5 @@
 -- The conditions of a log with their signs, and where they stand among nodes in the making.
-use Rattle.std.specs.Prelude.{ℕ, ◌+◌, ◌*◌, ◌/◌, ◌%◌, Bool, true, false, not, List, [], ◌∷◌, Option, Some, None, nat_eq}
-use Rattle.std.specs.Ordering.{nat_cmp}
-use Rattle.std.specs.BTreeMap.{BTreeMap, get}
+use Rattle.std.specs.Prelude.{ℕ, ◌+◌, ◌*◌, ◌/◌, ◌%◌, Bool, true, false, not, List, [], ◌∷◌, nat_eq}
 use Rattle.ct_word.specs.Condition.{Condition}
 use Rattle.ct_word.specs.Reading.{condition_at}
 use Rattle.ct_word.specs.WellFormed.{is_place_of}
@@ -9,11 +7,11 @@ use Rattle.ct_word.specs.declared.kinds.Class.TheVariants as class
 use Rattle.ct_word.specs.declared.connectives.Connective.{Connective}
 use Rattle.ct_word.specs.Connective.{dual}
 use Rattle.ct_rewrite.specs.declared.answer.Node.{Node}
-use Rattle.ct_rewrite.specs.declared.shape.Shape.{Shape}
-use Rattle.ct_rewrite.specs.declared.shape.Shape.TheVariants as shape
+use Rattle.ct_worlds.specs.declared.shape.Shape.{Shape}
+use Rattle.ct_worlds.specs.declared.shape.Shape.TheVariants as shape
 use Rattle.ct_rewrite.specs.Nodes.{node_condition}
 use Rattle.ct_rewrite.specs.Sizes.{Fits}
-use Rattle.ct_rewrite.specs.Shape.{shape_at}
+use Rattle.ct_worlds.specs.Shape.{shape_at}
 use Rattle.ct_rewrite.specs.Building.{Says, signed}
 
 -- the number of the condition at a place, for minus of its denial
@@ -52,12 +50,3 @@ connective_for false j = dual j
 pub record IsFormAt (words : List ℕ) (nodes : List Node) (k position : ℕ) : Type 0 where
   pub says : Says nodes position (signed_at words k)
   pub fits : Fits (node_condition nodes position) (condition_at words (k / 2))
-
--- a position, 0 for none
-abbrev pub position_of : Option ℕ → ℕ
-position_of (Some k) = k
-position_of None = 0
-
--- the position of a number
-abbrev pub position_at : BTreeMap ℕ ℕ → ℕ → ℕ
-position_at forms k = position_of (get nat_cmp forms k)

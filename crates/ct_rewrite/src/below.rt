@@ -1,8 +1,9 @@
 // The places that roots lead to.
 
-ghost use Rattle.std.specs.Prelude.{◌≡◌, ℕ, ◌≤◌, ◌<◌, false, OnOk, IfOk, IsTrue, MatchOption};
+ghost use Rattle.std.specs.Prelude.{ℕ, OnOk, IfOk, IsTrue};
 ghost use Rattle.std.specs.List.{list_all};
-ghost use Rattle.ct_rewrite.specs.Below.{has, AreAdded, IsClosedFrom, IsDownward, IsLastBelow, IsFirstFrom};
+ghost use Rattle.ct_worlds.specs.Truths.{AreRising};
+ghost use Rattle.ct_rewrite.specs.Below.{has, has_in, AreAdded, IsClosedFrom, IsDownward};
 
 use ct_word::Memory;
 use std::alloc::Global;
@@ -19,12 +20,12 @@ pub trait Graph {
     /// Adds the places that the thing at a place names.
     fn add_parts(&self, place: u32, places: &mut BTreeSet<u32>) -> Result<(), Memory>
         requires { IsTrue (is_in self.now place) }
-        ensures { OnOk result (AreAdded (has places.old) (has places.new) (parts self.now place)) };
+        ensures { OnOk result (AreAdded (has_in places.old) (has_in places.new) (parts self.now place)) };
 }
 
 /// Adds places to a set.
 pub fn add(places: &mut BTreeSet<u32>, more: &[u32]) -> Result<(), Memory>
-    ensures { OnOk result (AreAdded (has places.old) (has places.new) more.now) }
+    ensures { OnOk result (AreAdded (has_in places.old) (has_in places.new) more.now) }
 {
     for place in more {
         places.insert(*place)?;
@@ -32,45 +33,31 @@ pub fn add(places: &mut BTreeSet<u32>, more: &[u32]) -> Result<(), Memory>
     Ok(())
 }
 
-/// The greatest place of a set below a bound.
-fn last_below(places: &BTreeSet<u32>, bound: u32) -> Option<u32>
-    ensures { MatchOption result ((k : ℕ) → k < bound → has places.now k ≡ false) (IsLastBelow (has places.now) bound) }
-{
-    match places.range(..bound).next_back() {
-        Some(place) => Some(*place),
-        None => None,
-    }
-}
-
-/// The least place of a set from a bound on.
-pub fn first_from(places: &BTreeSet<u32>, low: u32) -> Option<u32>
-    ensures { MatchOption result ((k : ℕ) → low ≤ k → has places.now k ≡ false) (IsFirstFrom (has places.now) low) }
-{
-    match places.range(low..).next() {
-        Some(place) => Some(*place),
-        None => None,
-    }
-}
-
-/// The roots, and the places that they lead to.
+/// The roots and the places that they lead to, each once and in their order, so that what a place names
+/// comes before it.
 pub fn below<G: Graph>(
     alloc: Global,
     graph: &G,
     bound: u32,
     roots: &[u32],
-) -> Result<BTreeSet<u32>, Memory>
+) -> Result<Vec<u32>, Memory>
     requires downward { IsDownward (G.is_in graph.now) (G.parts graph.now) bound }
     requires roots { IsTrue (list_all (G.is_in graph.now) roots.now) }
-    ensures inside { IfOk result (λ ps. (k : ℕ) → IsTrue (has ps k) → IsTrue (G.is_in graph.now k)) }
-    ensures roots { IfOk result (λ ps. IsTrue (list_all (has ps) roots.now)) }
-    ensures closed { IfOk result (λ ps. IsClosedFrom (G.parts graph.now) 0 (has ps)) }
+    ensures inside { IfOk result (λ ps. (k : ℕ) → IsTrue (has ps.items k) → IsTrue (G.is_in graph.now k)) }
+    ensures roots { IfOk result (λ ps. IsTrue (list_all (has ps.items) roots.now)) }
+    ensures closed { IfOk result (λ ps. IsClosedFrom (G.parts graph.now) 0 (has ps.items)) }
+    ensures rising { IfOk result (λ ps. AreRising ps.items) }
 {
-    let mut places = BTreeSet::new(alloc);
-    add(&mut places, roots)?;
+    let mut waiting = BTreeSet::new(alloc);
+    add(&mut waiting, roots)?;
+    let mut passed = Vec::new(alloc);
+    // The proof alone reads this: no place at or past it is left to be passed.
     let mut bound = bound;
-    while let Some(place) = last_below(&places, bound) {
-        graph.add_parts(place, &mut places)?;
+    while let Some(place) = waiting.pop_last() {
+        graph.add_parts(place, &mut waiting)?;
+        passed.push(place)?;
         bound = place;
     }
-    Ok(places)
+    passed.reverse();
+    Ok(passed)
 }

@@ -3,8 +3,9 @@
 ghost use Rattle.std.specs.Prelude.{◌≡◌, ◌<◌, ◌≤◌, ◌+◌, ◌^◌, [], length, IfOk, OnErr, IsTrue};
 ghost use Rattle.std.specs.List.{IsDistinct, list_all};
 ghost use Rattle.ct_word.specs.Condition.{Same};
+ghost use Rattle.ct_worlds.specs.Shape.{literal};
 ghost use Rattle.ct_rewrite.specs.Nodes.{node_condition, read_nodes, stands_over, same_node, node_value, IsOrdered};
-ghost use Rattle.ct_rewrite.specs.Building.{Grows, Says, literal, signed};
+ghost use Rattle.ct_rewrite.specs.Building.{Grows, Says, signed};
 ghost use Rattle.ct_rewrite.specs.Rules.{is_proper, has_no_literals};
 ghost use Rattle.ct_rewrite.specs.Sizes.{Fits};
 

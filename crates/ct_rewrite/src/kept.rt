@@ -2,19 +2,21 @@
 
 ghost use Rattle.std.specs.Prelude.{◌≡◌, ℕ, ◌<◌, ◌^◌, [], length, map, IfOk, IsTrue};
 ghost use Rattle.std.specs.List.{AllZip, IsDistinct, list_all};
-ghost use Rattle.ct_rewrite.specs.Nodes.{IsOrdered, children_of, is_position, read_nodes, same_node};
+ghost use Rattle.ct_worlds.specs.Truths.{AreRising};
+ghost use Rattle.ct_rewrite.specs.Nodes.{IsOrdered, is_position, read_nodes, same_node};
 ghost use Rattle.ct_rewrite.specs.Rules.{is_proper, has_no_literals};
-ghost use Rattle.ct_rewrite.specs.Below.{has, has_at, HasAt, IsClosedFrom};
-ghost use Rattle.ct_rewrite.specs.Moving.{IsKept, children_at, moved_node, moved_to};
+ghost use Rattle.ct_rewrite.specs.Below.{has, position_at, HasAt, IsClosedFrom};
+ghost use Rattle.ct_rewrite.specs.Moving.{IsKept, children_at, moved_node};
 
 use crate::answer::Node;
-use crate::below::{Graph, add, below, first_from};
+use crate::below::{Graph, add, below};
 use crate::builder::Builder;
 use crate::form::Normal;
+use crate::positions::Positions;
 use crate::terms::copies;
 use ct_word::{List, Memory};
 use std::alloc::Global;
-use std::collections::{BTreeMap, BTreeSet};
+use std::collections::BTreeSet;
 
 /// The nodes of a list.
 #[derive(Drop)]
@@ -36,20 +38,14 @@ impl Graph for Nodes<'_> {
 }
 
 /// Where these positions went.
-fn moved(alloc: Global, positions: &BTreeMap<u32, u32>, from: &[u32]) -> Result<List<u32>, Memory>
-    requires { IsTrue (list_all (has_at positions.now) from.now) }
-    ensures { IfOk result (λ to. to ≡ map (moved_to positions.now) from.now) }
+fn moved(alloc: Global, positions: &Positions<'_>, from: &[u32]) -> Result<List<u32>, Memory>
+    ensures { IfOk result (λ to. to ≡ map (position_at positions.now) from.now) }
 {
-    let mut to = Vec::new(alloc);
-    for position in from {
-        to.push(positions[position])?;
-    }
-    Ok(List::from_vec(to))
+    Ok(List::from_vec(positions.of(alloc, from)?))
 }
 
 /// A copy of a node over the positions to which its children went.
-fn copied(alloc: Global, positions: &BTreeMap<u32, u32>, node: &Node) -> Result<Node, Memory>
-    requires { IsTrue (list_all (has_at positions.now) (children_of node.now)) }
+fn copied(alloc: Global, positions: &Positions<'_>, node: &Node) -> Result<Node, Memory>
     ensures { IfOk result (λ n. n ≡ moved_node positions.now node.now) }
 {
     Ok(match node {
@@ -69,12 +65,12 @@ fn copied(alloc: Global, positions: &BTreeMap<u32, u32>, node: &Node) -> Result<
 }
 
 /// Puts copies of the nodes at these positions into a builder, in their order, and says where each went.
-fn placed(
+fn placed<'a>(
     alloc: Global,
     builder: &mut Builder,
     nodes: &[Node],
-    reached: &BTreeSet<u32>,
-) -> Result<BTreeMap<u32, u32>, Memory>
+    reached: &'a [u32],
+) -> Result<Positions<'a>, Memory>
     requires ordered { IsOrdered nodes.now }
     requires distinct { IsDistinct same_node nodes.now }
     requires proper { IsTrue (list_all is_proper nodes.now) }
@@ -82,16 +78,15 @@ fn placed(
     requires room { length nodes.now < 2 ^ 32 }
     requires inside { (k : ℕ) → IsTrue (has reached.now k) → IsTrue (is_position nodes.now k) }
     requires closed { IsClosedFrom (children_at nodes.now) 0 (has reached.now) }
+    requires rising { AreRising reached.now }
     requires empty { builder.old ≡ [] }
     ensures { IfOk result (λ ps. (k : ℕ) → IsTrue (has reached.now k) → HasAt (IsKept nodes.now builder.new) ps k) }
 {
-    let mut positions = BTreeMap::new(alloc);
-    let mut low = 0;
-    while let Some(position) = first_from(reached, low) {
-        let copy = copied(alloc, &positions, &nodes[position as usize])?;
+    let mut positions = Positions::new(alloc, reached);
+    for position in reached {
+        let copy = copied(alloc, &positions, &nodes[*position as usize])?;
         let to = builder.place(copy)?;
-        positions.insert(position, to)?;
-        low = position + 1;
+        positions.push(to)?;
     }
     Ok(positions)
 }
@@ -112,10 +107,10 @@ pub fn kept(alloc: Global, nodes: &[Node], roots: &[u32]) -> Result<Normal, Memo
 {
     let reached = below(alloc, &Nodes { nodes }, nodes.len() as u32, roots)?;
     let mut builder = Builder::new(alloc);
-    let positions = placed(alloc, &mut builder, nodes, &reached)?;
-    drop(reached);
+    let positions = placed(alloc, &mut builder, nodes, reached.as_slice())?;
     let roots = moved(alloc, &positions, roots)?;
     drop(positions);
+    drop(reached);
     let nodes = builder.into_nodes(alloc)?;
     Ok(Normal { nodes, roots })
 }

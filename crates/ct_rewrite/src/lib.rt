@@ -14,8 +14,9 @@ mod joining;
 mod kept;
 mod numbering;
 mod order;
+mod plain;
+mod positions;
 mod printed;
-mod shape;
 mod terms;
 
 pub use answer::{AnswerRow, CertainRow, Node, PossibleRow};

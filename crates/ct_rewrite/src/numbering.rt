@@ -5,8 +5,8 @@ ghost use Rattle.std.specs.List.{list_all};
 ghost use Rattle.ct_rewrite.specs.Signs.{number, is_plus, connective_for};
 
 use crate::below::{Graph, add};
-use crate::shape::{Shape, shape_at};
 use ct_word::{Connective, Memory};
+use ct_worlds::{Shape, shape_at};
 use std::alloc::Global;
 use std::collections::BTreeSet;
 
@@ -59,12 +59,12 @@ impl Graph for Conditions<'_> {
 
     ghost parts = { λ g. named_at g.words.now };
 
-    fn add_parts(&self, place: u32, places: &mut BTreeSet<u32>) -> Result<(), Memory> {
-        let sign = is_plus(place);
-        match shape_at(self.words, place / 2) {
-            Shape::Not(part) => add(places, &[signed(part, !sign)]),
+    fn add_parts(&self, number: u32, numbers: &mut BTreeSet<u32>) -> Result<(), Memory> {
+        let sign = is_plus(number);
+        match shape_at(self.words, number / 2) {
+            Shape::Not(part) => add(numbers, &[signed(part, !sign)]),
             Shape::Joined(_, left, right) => {
-                add(places, &[signed(left, sign), signed(right, sign)])
+                add(numbers, &[signed(left, sign), signed(right, sign)])
             }
             _ => Ok(()),
         }

@@ -1,6 +1,6 @@
 // The printed form of conditions.
 
-ghost use Rattle.std.specs.Prelude.{◌≡◌, ℕ, List, [], ◌∷◌, ◌<◌, ◌≤◌, ◌^◌, length, map, replicate, IfOk, IsTrue};
+ghost use Rattle.std.specs.Prelude.{◌≡◌, ℕ, List, [], ◌∷◌, ◌<◌, ◌≤◌, ◌^◌, length, replicate, IfOk, IsTrue};
 ghost use Rattle.std.specs.List.{AllZip, IsDistinct, list_all};
 ghost use Rattle.ct_word.specs.declared.kinds.Class.TheVariants as class;
 ghost use Rattle.ct_word.specs.declared.values.Term.{Term};
@@ -10,9 +10,6 @@ ghost use Rattle.ct_word.specs.Reading.{condition_at};
 ghost use Rattle.ct_rewrite.specs.declared.answer.Node.TheVariants as node;
 ghost use Rattle.ct_rewrite.specs.Nodes.{IsOrdered, is_position, node_condition, read_nodes, same_node};
 ghost use Rattle.ct_rewrite.specs.Rules.{are_children_distinct, are_children_within, are_sides_in_order, has_no_literals, is_unsettled};
-ghost use Rattle.ct_rewrite.specs.Below.{has_at};
-ghost use Rattle.ct_rewrite.specs.Shape.{is_true_at};
-ghost use Rattle.ct_rewrite.specs.Signs.{position_at};
 ghost use Rattle.ct_rewrite.specs.Sizes.{NoneIsEmpty, deep, nest_of, text_of, wide};
 
 use crate::answer::Node;
@@ -22,29 +19,9 @@ use crate::form::Normal;
 use crate::forms::forms;
 use crate::kept::kept;
 use crate::numbering::{Conditions, numbers};
-use crate::shape::are_true;
+use crate::plain::is_plain;
 use ct_word::{List, Memory};
 use std::alloc::Global;
-use std::collections::BTreeMap;
-
-/// The positions of these numbers.
-fn positions(alloc: Global, forms: &BTreeMap<u32, u32>, numbers: &[u32]) -> Result<Vec<u32>, Memory>
-    requires { IsTrue (list_all (has_at forms.now) numbers.now) }
-    ensures { IfOk result (λ ks. ks.items ≡ map (position_at forms.now) numbers.now) }
-{
-    let mut positions = Vec::new(alloc);
-    for number in numbers {
-        positions.push(forms[number])?;
-    }
-    Ok(positions)
-}
-
-/// Whether there are roots, each of them a place of the word true.
-fn is_plain(words: &[u64], roots: &[u32]) -> bool
-    ensures { IsTrue result → IsTrue (list_all (is_true_at words.now) roots.now) }
-{
-    !roots.is_empty() && are_true(words, roots)
-}
 
 /// The printed form of so many conditions, each of them true.
 fn all_true(alloc: Global, count: usize) -> Result<Normal, Memory>
@@ -103,7 +80,7 @@ pub fn normal(alloc: Global, words: &[u64], roots: &[u32]) -> Result<Normal, Mem
     let roots = numbered.as_slice();
     let wanted = below(alloc, &Conditions { words }, 2 * words.len() as u32, roots)?;
     let mut builder = Builder::new(alloc);
-    let forms = forms(alloc, &mut builder, words, &wanted)?;
-    let positions = positions(alloc, &forms, roots)?;
+    let forms = forms(alloc, &mut builder, words, wanted.as_slice())?;
+    let positions = forms.of(alloc, roots)?;
     kept(alloc, builder.nodes(), positions.as_slice())
 }

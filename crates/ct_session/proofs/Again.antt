@@ -4,11 +4,10 @@ use Rattle.ct_word.{specs.Change.PlainChange, specs.Reading.commits_of, proofs.I
 use Rattle.ct_query.{specs.Bounds.bound, specs.Patterns.count, specs.Plain.{PlainAction, PlainStatement}, specs.Reads.action_reads, specs.Schema.schema, specs.declared.schema.Schema.Schema}
 use Rattle.ct_resolve.{specs.Conditions.condition_or_true, specs.Names.table_in, specs.Statements.{cells_of, resolved}}
 use Rattle.ct_table.specs.Snapshot.{commits_to}
-use Rattle.ct_condition.specs.Writes.{charge}
+use Rattle.ct_condition.specs.Writes.{charge, kept_of}
 use Rattle.ct_statement.{specs.Making.{says_full, widths_in}, specs.Sight.history_of, specs.Unmet.IsWant, proofs.Sights.history_stays, proofs.Weights.action_makes_words}
 use Rattle.ct_transcript.specs.declared.reply.Refusal.{Refusal}
 use Rattle.ct_arena.specs.Seen.{Seen}
-use Rattle.ct_history.specs.Kept.{kept_of}
 use Rattle.ct_keeper.{specs.Bounds.offer_words, specs.Offers.changes_in, specs.Served.{IsLastCommit, IsOutcome}, specs.declared.catalogue.Offer.Offer, specs.declared.catalogue.Outcome.Outcome}
 use Rattle.ct_keeper.specs.declared.error.KeeperError.{KeeperError}
 use Rattle.ct_parse.specs.declared.tree.Statement.{Statement}

@@ -1,8 +1,7 @@
 -- A statement outside a transaction, from what it asks for to what it has done.
 use Rattle.std.{proofs.Common.{◌≡◌, ◌+◌, ℕ, false, List, [], subst, sym}, specs.Prelude.{Option, Result, Ok, Err, IfOk, IsNone}, proofs.lemmas.Result.IfOk-weaker}
 use Rattle.ct_arena.specs.Seen.{Seen}
-use Rattle.ct_condition.specs.Writes.{charge}
-use Rattle.ct_history.specs.Kept.{kept_of}
+use Rattle.ct_condition.specs.Writes.{charge, kept_of}
 use Rattle.ct_parse.specs.declared.tree.Statement.{Statement}
 use Rattle.ct_query.{specs.Patterns.count, specs.Plain.PlainStatement, specs.Schema.schema}
 use Rattle.ct_table.specs.Snapshot.{commits_to}

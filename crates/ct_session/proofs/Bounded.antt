@@ -5,8 +5,7 @@ use Rattle.ct_word.{specs.Change.{PlainChange, Assert, PlainCommit}, specs.Readi
 use Rattle.ct_query.{specs.Agrees.AgreesWith, specs.Bounds.{bound, applying_words}, specs.Patterns.count, specs.Plain.{PlainAction, PlainStatement}, specs.Schema.schema}
 use Rattle.ct_query.specs.declared.schema.{Heading.Heading, Schema.Schema}
 use Rattle.ct_arena.specs.Seen.{Seen}
-use Rattle.ct_condition.specs.Writes.{charge}
-use Rattle.ct_history.specs.Kept.{kept_of}
+use Rattle.ct_condition.specs.Writes.{charge, kept_of}
 use Rattle.ct_keeper.{specs.Offers.commit_for, specs.Bounds.{applied_words, offer_words}}
 use Rattle.ct_parse.specs.declared.tree.Statement.{Statement}
 use Rattle.ct_resolve.{specs.Found.Found, specs.Statements.resolved, proofs.Growing.{IsNewAmong, resolves_later}}

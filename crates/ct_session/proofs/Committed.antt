@@ -15,7 +15,7 @@ use Rattle.ct_transaction.{specs.Answers.{GoesOn, Answers}, specs.LawfulReply.Is
 use Rattle.ct_transaction.{specs.Statements.ReadsAs, proofs.Called.{IsCall, comes, one_before, had_room, before, there}}
 use Rattle.ct_transaction.{proofs.Going.{front_taken, prefix_short}, proofs.Ordered.state_same, proofs.Unchanged.{agrees_still, resolves_still}}
 use Rattle.ct_session.{specs.declared.offering.Offering.Offering, specs.Offering.IsReadyToOffer}
-use Rattle.ct_history.specs.Kept.{kept_of}
+use Rattle.ct_condition.specs.Writes.{kept_of}
 use Rattle.ct_query.specs.Plain as plain
 use Rattle.ct_transcript.specs.declared.reply.Reply.TheVariants as reply
 

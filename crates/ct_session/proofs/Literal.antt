@@ -3,7 +3,8 @@ use Rattle.std.{proofs.Common.{◌≡◌, ◌+◌, ℕ, true, List, [], sym, sub
 use Rattle.ct_keeper.{specs.Offers.kept_in, specs.declared.catalogue.Offer.Offer}
 use Rattle.ct_word.specs.WellFormed.{IsWellFormed}
 use Rattle.ct_arena.specs.Seen.{Seen}
-use Rattle.ct_history.{specs.Encodes.IsEncodable, specs.Kept.kept_of}
+use Rattle.ct_condition.specs.Writes.{kept_of}
+use Rattle.ct_history.specs.Encodes.{IsEncodable}
 use Rattle.ct_parse.specs.declared.tree.Statement.{Statement}
 use Rattle.ct_query.{specs.Plain.PlainAction, specs.Reads.reads_of, specs.Schema.schema, specs.Views.action_of, specs.declared.action.Read.Read}
 use Rattle.ct_table.specs.Snapshot.{commits_to}
@@ -45,8 +46,9 @@ module _ (begun now : Seen) (longer : IsPrefix begun.words now.words) (same : ke
   literal_ready formed p reads like empty reads_are is draws proposes =
       subst (λ b. IsReadyToOffer now fresh (record { offer = record { base = b; reads = reads; changes = p.changes; kept = like.kept }; fresh = p.fresh }) st) (sym f.base_is)
       (ready_to_offer now fresh f.sight (sight_grows begun.words now.words longer f.sight formed f.sees.sight) f.sees.none st p None reads
-      (prepared_on begun now longer same f.sight f.sees.sight.within f.sees.none fresh st (prepared.Change p None reads) (record {
+      (prepared_on begun now longer same f.sight f.sees.sight.within f.sees.none fresh st (prepared.Change p None) reads (record {
         asked = plain.Act a;
         resolves = f.found.resolves;
-        prepared = (record { action = is; proposes = proposes; draws = draws; steps = tt }, reads_are);
+        reads_are = reads_are;
+        prepared = record { action = is; proposes = proposes; draws = draws; steps = tt };
       })) (λ asserts. absurd (literal_asserts_none a literal (subst (λ b. IsTrue (is_assertion b)) is asserts))) like empty)

@@ -2,7 +2,7 @@
 use Rattle.std.{proofs.Common.{◌≡◌, ℕ, ◌≤◌, List, [], length, refl, ap, sym, subst, ◌∙◌, arith}, specs.Prelude.None}
 use Rattle.ct_word.{specs.Change.PlainCommit, specs.Reading.commits_of, proofs.Prefixes.prefix_of_prefix}
 use Rattle.ct_arena.{specs.Counts.AreNumbered, specs.Seen.Seen}
-use Rattle.ct_history.specs.Kept.{kept_of}
+use Rattle.ct_condition.specs.Writes.{kept_of}
 use Rattle.ct_query.{specs.declared.action.Read.Read, specs.Schema.schema}
 use Rattle.ct_resolve.specs.Statements.{resolved}
 use Rattle.ct_table.specs.Snapshot.{commits_to}
@@ -21,8 +21,8 @@ use Rattle.ct_transaction.specs.declared.preparing.Prepared.TheVariants as prepa
 -- what was prepared at the sight, or why it was refused, over the words that came with it
 module _ (begun now : Seen) (longer : IsPrefix begun.words now.words) (kept : kept_of now ≡ kept_of begun) (sight : Sight) (within : sight.version ≤ length (commits_of begun.words)) (none : actions_before sight ≡ [])
     (fresh : ℕ) (st : Statement) where
-  pub prepared_on : (p : Prepared) → IsPrepared now.words (history_of begun.words sight) (actions_before sight) [] begun.session fresh sight st p
-      → IsPrepared now.words (history_of now.words sight) (actions_before sight) [] now.session fresh sight st p
+  pub prepared_on : (p : Prepared) (reads : List Read) → IsPrepared now.words (history_of begun.words sight) (actions_before sight) [] begun.session fresh sight st p reads
+      → IsPrepared now.words (history_of now.words sight) (actions_before sight) [] now.session fresh sight st p reads
   prepared_on = prepared_later begun now longer kept sight within None none fresh st
 
   pub refused_on : (N : ℕ) (why : Refusal) → IsRefused (history_of begun.words sight) (actions_before sight) N now.words begun.session fresh st why
@@ -30,11 +30,11 @@ module _ (begun now : Seen) (longer : IsPrefix begun.words now.words) (kept : ke
   refused_on N why i =
       subst (λ before. IsRefused (history_of now.words sight) before N now.words now.session fresh st why) none (refused_later begun now longer kept sight within None none fresh st N why i)
 
-  pub answered_on : (given : Answered) (reads : List Read) → IsPrepared now.words (history_of begun.words sight) (actions_before sight) [] begun.session fresh sight st (prepared.Answer given reads)
+  pub answered_on : (given : Answered) (reads : List Read) → IsPrepared now.words (history_of begun.words sight) (actions_before sight) [] begun.session fresh sight st (prepared.Answer given) reads
       → ForAnswer now.words (history_of now.words sight) [] now.session fresh st given reads
   answered_on given reads i =
       subst (λ before. ForAnswer now.words (history_of now.words sight) before now.session fresh st given reads) none
-      (prepared_answer now.words (history_of now.words sight) (actions_before sight) [] now.session fresh sight st given reads (prepared_on (prepared.Answer given reads) i))
+      (prepared_answer now.words (history_of now.words sight) (actions_before sight) [] now.session fresh sight st given reads (prepared_on (prepared.Answer given) reads i))
 
 -- a statement that went on to some words has gone on to further ones, and to a later version
 pub begins_on : (first begun now : Seen) (version later : ℕ) → Begins first begun version → IsPrefix begun.words now.words → kept_of now ≡ kept_of begun → version ≤ later → Begins first now later

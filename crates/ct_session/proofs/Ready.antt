@@ -4,8 +4,8 @@ use Rattle.std.{specs.Prelude.{Option, Some, None, IsTrue, IsSome}, specs.List.{
 use Rattle.std.{proofs.lemmas.List.append-nil, proofs.lemmas.List.Elements.{All-from_recursion, recursion_from_All, All-contains_itself}}
 use Rattle.ct_word.{specs.Change.{PlainChange, Assert, PlainCommit}, specs.Reading.change_list_at}
 use Rattle.ct_word.specs.Writable.{is_writable}
-use Rattle.ct_query.{specs.Agrees.{AgreesWith, Agrees}, specs.Fits.FitChanges, specs.Frame.{creates, reads_of_actions}, specs.Reads.action_reads}
-use Rattle.ct_query.{specs.Plain.PlainAction, specs.Schema.schema, specs.Views.action_of, specs.declared.action.Read.Read}
+use Rattle.ct_query.{specs.Agrees.{AgreesWith, Agrees}, specs.Fits.FitChanges, specs.Frame.{creates, reads_of_actions}, specs.Reads.{action_reads, reads_of}}
+use Rattle.ct_query.{specs.Plain.{PlainAction, PlainStatement}, specs.Schema.schema, specs.Views.action_of, specs.declared.action.Read.Read}
 use Rattle.ct_query.proofs.Committed.{commit_does}
 use Rattle.ct_arena.specs.Seen.{Seen}
 use Rattle.ct_keeper.{specs.Offers.{IsOffer, commit_for, has_assertion, kept_in}, specs.declared.catalogue.Offer.Offer}
@@ -13,7 +13,7 @@ use Rattle.ct_table.specs.Snapshot.{IsKeptWorld}
 use Rattle.ct_parse.specs.declared.tree.Statement.{Statement}
 use Rattle.ct_statement.{specs.declared.proposing.Proposal.Proposal, specs.declared.sight.Sight.Sight, specs.declared.stepping.Step.Step}
 use Rattle.ct_statement.{specs.Sight.{actions_before, history_of, IsSight}, specs.Sources.is_assertion}
-use Rattle.ct_transaction.{specs.Prepared.{IsPrepared, IsStepIf, needs_step}, proofs.Actions.{ForAction, prepared_action}}
+use Rattle.ct_transaction.{specs.Prepared.{IsPrepared, IsPreparedFor, IsStepIf, needs_step}, proofs.Actions.{ForAction, prepared_action}}
 use Rattle.ct_transaction.proofs.Offered.{creates_all, asserts_read}
 use Rattle.ct_session.{specs.Offering.IsReadyToOffer, specs.Outcomes.world_offered}
 use Rattle.ct_query.specs.Plain as plain
@@ -27,10 +27,16 @@ asserts h (plain.AssertKey n ks) (Assert c') f some = refl
 asserts h _ (Assert c') f some = absurd f
 asserts h _ _ f some = absurd (false≢true some)
 
+-- a proposed action reads what its statement reads
+pub its_reads : (words : List ℕ) (h : List PlainCommit) (before : List PlainAction) (list : List PlainChange) (fresh : ℕ) (s : Sight) (asked : PlainStatement) (p : Proposal) (step : Option Step)
+    → IsPreparedFor words h before list fresh s asked (prepared.Change p step) → action_reads (action_of p.action) ≡ reads_of asked
+its_reads words h before list fresh s (plain.Act a) p step is = ap action_reads is.action
+its_reads words h before list fresh s _ p step is = absurd is
+
 -- what was prepared outside a transaction is ready to be offered
 module _ (pass : Seen) (fresh : ℕ) (sight : Sight) (sees : IsSight pass.words sight) (none : actions_before sight ≡ []) (st : Statement) (proposal : Proposal) (step : Option Step) (reads : List Read)
-    (k : IsPrepared pass.words (history_of pass.words sight) (actions_before sight) [] pass.session fresh sight st (prepared.Change proposal step reads))
-    (needs : needs_step false (prepared.Change proposal step reads)) where
+    (k : IsPrepared pass.words (history_of pass.words sight) (actions_before sight) [] pass.session fresh sight st (prepared.Change proposal step) reads)
+    (needs : needs_step false (prepared.Change proposal step)) where
   abbrev h : List PlainCommit
   h = history_of pass.words sight
 

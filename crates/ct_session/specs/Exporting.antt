@@ -72,7 +72,7 @@ pub record HasExported (N : ℕ) (old new : Standing) (name : List ℕ) (at : �
   pub now : IsNow old new at
   pub file : Later N new.pass.words at (λ h. IsFileOf new.pass.words h name bytes)
 
--- why it has not; want of memory may come at any time, and what was looked at then is a version of the words
+-- why it has not; memory may run out at any time, and what was looked at then is a version of the words
 abbrev pub HasNotExported : ℕ → Standing → Standing → List ℕ → ExportError → Type 0
 HasNotExported N old new name (fault.UnknownTable at) =
     HasLooked old new at × IsNow old new at × Later N new.pass.words at (λ h. columns_in (schema h []).tables name ≡ None)

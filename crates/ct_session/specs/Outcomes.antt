@@ -4,7 +4,7 @@ use mathlib.Core.List.{IsPrefix}
 use Rattle.ct_word.specs.Reading.{commits_of}
 use Rattle.ct_arena.specs.Counts.{AreNumbered}
 use Rattle.ct_arena.specs.Seen.{Seen}
-use Rattle.ct_history.specs.Kept.{kept_of}
+use Rattle.ct_condition.specs.Writes.{kept_of}
 use Rattle.ct_word.specs.Value.{World}
 use Rattle.ct_statement.specs.Proposals.{kept_after}
 use Rattle.ct_statement.specs.declared.stepping.Step.{Step}

@@ -5,10 +5,9 @@
 ghost use Rattle.std.specs.Prelude.{◌≡◌, ◌+◌, ◌<◌, ◌≤◌, ◌^◌, [], false, length, IfOk, IfErr};
 ghost use mathlib.Core.List.{IsPrefix};
 ghost use Rattle.ct_word.specs.Reading.{commits_of};
-ghost use Rattle.ct_condition.specs.Writes.{charge};
-ghost use Rattle.ct_history.specs.Kept.{kept_of};
+ghost use Rattle.ct_parse.specs.declared.tree.Statement.{Statement as StatementValue};
+ghost use Rattle.ct_condition.specs.Writes.{charge, kept_of};
 ghost use Rattle.ct_query.specs.Patterns.{count};
-ghost use Rattle.ct_query.specs.Reads.{reads_of};
 ghost use Rattle.ct_query.specs.Schema.{schema};
 ghost use Rattle.ct_query.specs.Views.{statement_of};
 ghost use Rattle.ct_table.specs.Snapshot.{commits_to};
@@ -22,16 +21,16 @@ ghost use Rattle.ct_session.specs.Doing.{IsAskedFor, IsDone};
 ghost use Rattle.ct_session.specs.Known.{SeesAlone};
 ghost use Rattle.ct_session.specs.Offering.{IsReady};
 
-use crate::offering::{is_literal_act, literal_offer, offering_of, world_of};
+use crate::offering::{literal_act, literal_offer, offering_of, world_of};
 use crate::settling::{Ready, begun, settled};
 use ct_arena::{Arena, Pass, Site};
 use ct_keeper::Server;
 use ct_parse::Statement;
-use ct_query::{Read, Resolved};
+use ct_query::Resolved;
 use ct_statement::{Sight, Workers};
 use ct_transaction::{Prepared, State, perform_alone, resolved_at};
 use ct_transcript::{Refusal, Reply};
-use ct_word::List;
+use ct_word::Memory;
 use std::alloc::Global;
 use std::sync::Wait;
 use std::thread::Threads;
@@ -48,41 +47,31 @@ fn performed<N: Site, R: Threads + Sync>(
     fresh: u32,
     sight: &Sight,
     found: Resolved,
-    reads: List<Read>,
     workers: Workers,
-    statement: &Statement,
 ) -> Result<Ready, Refusal>
     requires sees { SeesAlone pass.old.words sight.now }
-    requires resolved { IsResolved (history_of pass.old.words sight.now) (actions_before sight.now) pass.old.session fresh statement.now (statement_of found) }
-    requires reads { reads ≡ reads_of (statement_of found) }
+    requires resolved { (st : StatementValue) × IsResolved (history_of pass.old.words sight.now) (actions_before sight.now) pass.old.session fresh st (statement_of found) }
     ensures longer { IsPrefix pass.old.words pass.new.words }
     ensures kept { kept_of pass.new ≡ kept_of pass.old }
     ensures made { Performs false (count (history_of pass.old.words sight.now) (actions_before sight.now)) (making.widths_in (schema (history_of pass.old.words sight.now) (actions_before sight.now)).tables) (statement_of found) pass.old.made (pass.new.made + charge (making.is_full result)) }
     ensures unnamed { IfErr result (λ why. is_of_name why ≡ false) }
-    ensures ok { IfOk result (IsReady pass.new fresh sight.now.version statement.now) }
-    ensures err { IfErr result (IsRefused (commits_to pass.new.words sight.now.version) [] N.log.cap pass.new.words pass.new.session fresh statement.now) }
+    ensures ok { (st : StatementValue) → IsResolved (history_of pass.old.words sight.now) (actions_before sight.now) pass.old.session fresh st (statement_of found) → IfOk result (IsReady pass.new fresh sight.now.version st) }
+    ensures err { (st : StatementValue) → IsResolved (history_of pass.old.words sight.now) (actions_before sight.now) pass.old.session fresh st (statement_of found) → IfErr result (IsRefused (commits_to pass.new.words sight.now.version) [] N.log.cap pass.new.words pass.new.session fresh st) }
 {
-    let prepared = perform_alone(rt, alloc, arena, pass, sight, fresh, found, reads, workers);
+    let prepared = perform_alone(rt, alloc, arena, pass, sight, fresh, found, workers);
     let _now = pass.words();
     match prepared {
-        Ok(Prepared::Answer { answered, reads }) => {
-            drop(reads);
-            Ok(Ready::Answer(answered))
-        }
-        Ok(
-            Prepared::Change {
-                proposal,
-                step,
-                reads,
-            },
-        ) => match world_of(alloc, sight, step) {
-            Ok(kept) => Ok(Ready::Offer(offering_of(sight.version, proposal, reads, kept))),
-            Err(_) => {
+        Ok(Prepared::Answer(answered)) => Ok(Ready::Answer(answered)),
+        Ok(Prepared::Change { proposal, step }) => {
+            let Ok(kept) = world_of(alloc, sight, step) else {
                 drop(proposal);
-                drop(reads);
-                Err(Refusal::Memory)
+                return Err(Refusal::Memory);
+            };
+            match offering_of(alloc, sight.version, proposal, kept) {
+                Ok(offering) => Ok(Ready::Offer(offering)),
+                Err(Memory) => Err(Refusal::Memory),
             }
-        },
+        }
         Err(why) => Err(why),
     }
 }
@@ -111,27 +100,27 @@ fn asked<N: Site, R: Threads + Sync>(
     ensures kept { kept_of pass.new ≡ kept_of pass.old }
     ensures asks { IsAskedFor N.log.cap pass.old.made pass.new fresh sight.version statement.now result }
 {
-    let (found, reads) = match resolved_at(alloc, pass, &sight, fresh, statement) {
+    let found = match resolved_at(alloc, pass, &sight, fresh, statement) {
         Ok(found) => found,
         Err(why) => {
             drop(sight);
             return Err(why);
         }
     };
-    if is_literal_act(&found) {
-        let base = sight.version;
-        drop(sight);
-        let offering = literal_offer(arena, pass, fresh, base, found, reads, statement);
-        match offering {
-            Ok(offering) => Ok(Ready::Offer(offering)),
-            Err(why) => Err(why),
+    match literal_act(found) {
+        Ok(action) => {
+            let base = sight.version;
+            drop(sight);
+            match literal_offer(alloc, arena, pass, fresh, base, action) {
+                Ok(offering) => Ok(Ready::Offer(offering)),
+                Err(why) => Err(why),
+            }
         }
-    } else {
-        let ready = performed(
-            rt, alloc, arena, pass, fresh, &sight, found, reads, workers, statement,
-        );
-        drop(sight);
-        ready
+        Err(found) => {
+            let ready = performed(rt, alloc, arena, pass, fresh, &sight, found, workers);
+            drop(sight);
+            ready
+        }
     }
 }
 

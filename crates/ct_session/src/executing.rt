@@ -53,10 +53,8 @@ fn placed<N: Site, R: Threads + Wait + Sync>(
         return transact(rt, alloc, server, session, workers, statement);
     }
     match statement {
-        Statement::Begin => begin(rt, alloc, server, session, statement),
-        Statement::Commit | Statement::Rollback => {
-            refused_here(session, statement, Refusal::NoTransaction)
-        }
+        Statement::Begin => begin(rt, alloc, server, session),
+        Statement::Commit | Statement::Rollback => refused_here(session, Refusal::NoTransaction),
         _ => alone(rt, alloc, server, session, workers, statement),
     }
 }

@@ -35,7 +35,7 @@ pub enum ExportError {
         /// The row's number in the table, from 1.
         row: u64,
     },
-    /// Memory was wanting.
+    /// Memory ran out.
     #[error("out of memory")]
     Memory,
 }
@@ -90,11 +90,14 @@ fn file_of(
 }
 
 /// Exports the table with this name, at a version that has all commits of the words before.
+///
+/// # Errors
+/// As `file_of` has them; `Memory` also where there is none for what is seen.
 pub(crate) fn exported<N: Site, R: Wait>(
     rt: &R,
     alloc: Global,
     server: &Server<N>,
-    session: State<N>,
+    mut session: State<N>,
     name: &str,
 ) -> (State<N>, Result<(u32, Vec<u8>), ExportError>)
     requires session { IsSession session.pass.words session.seen session.transaction }
@@ -103,33 +106,17 @@ pub(crate) fn exported<N: Site, R: Wait>(
     ensures ok { IfOk result.1 (λ r. HasExported N.log.cap (record { pass = session.pass; seen = session.seen; fresh = session.fresh; transaction = session.transaction }) (record { pass = result.0.pass; seen = result.0.seen; fresh = result.0.fresh; transaction = result.0.transaction }) name.now r.0 r.1.items) }
     ensures error { IfErr result.1 (HasNotExported N.log.cap (record { pass = session.pass; seen = session.seen; fresh = session.fresh; transaction = session.transaction }) (record { pass = result.0.pass; seen = result.0.seen; fresh = result.0.fresh; transaction = result.0.transaction }) name.now) }
 {
-    let State {
-        pass,
-        seen,
-        fresh,
-        transaction,
-    } = session;
-    let _ = pass.words();
-    let (pass, snapshot) = server.begin(rt, alloc, pass);
-    let words = pass.words();
+    let _ = session.pass.words();
+    let (pass, snapshot) = server.begin(rt, alloc, session.pass);
+    session.pass = pass;
+    let words = session.pass.words();
     let Ok(snapshot) = snapshot else {
-        let session = State {
-            pass,
-            seen,
-            fresh,
-            transaction,
-        };
         return (session, Err(ExportError::Memory));
     };
     let at = snapshot.version;
     let file = file_of(alloc, words, &snapshot.db, at, name);
     drop(snapshot);
-    let session = State {
-        pass,
-        seen: seen.max(at),
-        fresh,
-        transaction,
-    };
+    session.seen = session.seen.max(at);
     match file {
         Ok(bytes) => (session, Ok((at, bytes))),
         Err(why) => (session, Err(why)),

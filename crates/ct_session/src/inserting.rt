@@ -3,21 +3,21 @@
 ghost use Rattle.std.specs.Prelude.{◌≡◌, ◌<◌, ◌≤◌, ◌^◌, length, IsNone};
 ghost use mathlib.Core.List.{IsPrefix};
 ghost use Rattle.ct_word.specs.Reading.{commits_of};
-ghost use Rattle.ct_history.specs.Kept.{kept_of};
+ghost use Rattle.ct_condition.specs.Writes.{kept_of};
 ghost use Rattle.ct_transaction.specs.Sessions.{IsSession};
 ghost use Rattle.ct_transaction.specs.Statements.{IsWritten};
 ghost use Rattle.ct_session.specs.Doing.{IsAskedFor, IsDone};
 ghost use Rattle.ct_session.specs.Known.{IsKnown, SeesAlone};
 ghost use Rattle.ct_session.specs.Offering.{IsRowInsertion};
 
-use crate::knowing::{Known, insert_known};
+use crate::knowing::{Known, insert_known, insertion_at};
 use crate::offering::literal_offer;
 use crate::settling::{Ready, begun, settled};
 use ct_arena::{Arena, Pass, Site};
 use ct_keeper::Server;
 use ct_parse::Statement;
 use ct_statement::Sight;
-use ct_transaction::{State, resolved_at};
+use ct_transaction::State;
 use ct_transcript::{Refusal, Reply};
 use std::alloc::Global;
 use std::sync::Wait;
@@ -44,8 +44,8 @@ fn asked<N: Site>(
     ensures known { IsKnown pass.new.words known.new }
     ensures asks { IsAskedFor N.log.cap pass.old.made pass.new fresh sight.version statement.now result }
 {
-    let (found, reads) = match resolved_at(alloc, pass, &sight, fresh, statement) {
-        Ok(found) => found,
+    let action = match insertion_at(alloc, pass, &sight, fresh, statement) {
+        Ok(action) => action,
         Err(why) => {
             drop(sight);
             return Err(why);
@@ -53,7 +53,7 @@ fn asked<N: Site>(
     };
     let base = sight.version;
     known.note(sight);
-    let offering = literal_offer(arena, pass, fresh, base, found, reads, statement);
+    let offering = literal_offer(alloc, arena, pass, fresh, base, action);
     let _now = pass.words();
     match offering {
         Ok(offering) => Ok(Ready::Offer(offering)),
@@ -118,23 +118,8 @@ pub(crate) fn insert<N: Site, R: Wait>(
     ensures known { IsKnown result.0.pass.words known.new }
     ensures done { IsDone N.log.cap session.pass session.seen session.fresh statement.now result.0.pass result.0.seen result.0.fresh result.0.transaction result.1 }
 {
-    let State {
-        pass,
-        seen,
-        fresh,
-        transaction,
-    } = session;
-    drop(transaction);
-    match insert_known(rt, alloc, server, pass, seen, fresh, known, statement) {
+    match insert_known(rt, alloc, server, session, known, statement) {
         Ok(done) => done,
-        Err(pass) => {
-            let session = State {
-                pass,
-                seen,
-                fresh,
-                transaction: None,
-            };
-            anew(rt, alloc, server, session, known, statement)
-        }
+        Err(session) => anew(rt, alloc, server, session, known, statement),
     }
 }

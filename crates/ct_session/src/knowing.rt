@@ -6,30 +6,31 @@ ghost use Rattle.std.specs.Prelude.{◌≡◌, ◌+◌, ◌<◌, ◌≤◌, ◌^
 ghost use mathlib.Core.List.{IsPrefix};
 ghost use Rattle.ct_word.specs.Reading.{commits_of};
 ghost use Rattle.ct_arena.specs.Seen.{Seen};
-ghost use Rattle.ct_condition.specs.Writes.{charge};
-ghost use Rattle.ct_history.specs.Kept.{kept_of};
-ghost use Rattle.ct_query.specs.Reads.{reads_of};
-ghost use Rattle.ct_query.specs.Views.{statement_of};
+ghost use Rattle.ct_condition.specs.Writes.{charge, kept_of};
+ghost use Rattle.ct_parse.specs.declared.tree.Statement.{Statement as StatementValue};
+ghost use Rattle.ct_query.specs.Plain as plain;
+ghost use Rattle.ct_query.specs.Views.{action_of};
 ghost use Rattle.ct_statement.specs.Making.{says_full};
+ghost use Rattle.ct_statement.specs.Sight.{actions_before, history_of};
 ghost use Rattle.ct_statement.specs.Unmet.{IsWant};
 ghost use Rattle.ct_transaction.specs.Answers.{is_full, is_unasked};
 ghost use Rattle.ct_transaction.specs.Bounded.{Makes};
 ghost use Rattle.ct_transaction.specs.Executes.{Executes};
+ghost use Rattle.ct_transaction.specs.Prepared.{IsRefused, IsResolved};
 ghost use Rattle.ct_transaction.specs.Sessions.{IsSession, state_of};
 ghost use Rattle.ct_transaction.specs.Statements.{IsWritten};
 ghost use Rattle.ct_session.specs.Known.{IsKnown, SeesAlone};
-ghost use Rattle.ct_session.specs.Offering.{InsertsRows, IsFoundAlone, IsInsertion, IsRowInsertion};
+ghost use Rattle.ct_session.specs.Offering.{IsFoundAlone, IsInsertion, IsRowInsertion, inserts_rows};
 ghost use Rattle.ct_session.specs.Outcomes.{CommitsOrWants, IsCommittedOr, Starts};
 
-use crate::offering::{Offering, literal_offer};
+use crate::offering::{Offering, literal_act, literal_offer};
 use ct_arena::{Pass, Site};
 use ct_keeper::{KeeperError, Outcome, Server};
 use ct_parse::Statement;
-use ct_query::{Read, Resolved};
+use ct_query::Action;
 use ct_statement::Sight;
 use ct_transaction::{State, refusal, resolved_at};
 use ct_transcript::{Refusal, Reply};
-use ct_word::List;
 use std::alloc::Global;
 use std::sync::Wait;
 
@@ -67,8 +68,11 @@ impl Known {
     }
 }
 
-/// The number of the commit that an offer became. Else why it became none: the log is full, or memory is wanting. An
-/// insertion of written rows reads nothing, so that it meets no conflict, and its list of changes is not empty.
+/// The number of the commit that an offer became. An insertion of written rows reads nothing, so that it meets no conflict,
+/// and its list of changes is not empty.
+///
+/// # Errors
+/// `Full` where the log is full, `Memory` where memory runs out.
 fn committed_or(outcome: Result<Outcome, KeeperError>) -> Result<u32, Refusal>
     requires settled { CommitsOrWants outcome }
     ensures { IsCommittedOr outcome result }
@@ -89,67 +93,71 @@ fn committed_or(outcome: Result<Outcome, KeeperError>) -> Result<u32, Refusal>
     }
 }
 
-/// An insertion of written rows with positions for its names, and what it reads, where what an earlier one saw has the
-/// names. No word is made.
-fn found_known<N: Site>(
+/// An insertion of written rows with positions for its names, at what it sees. No word is made.
+///
+/// # Errors
+/// The first fault of its names and counts; `Memory`.
+pub(crate) fn insertion_at<N: Site>(
     alloc: Global,
     pass: &Pass<N>,
-    fresh: u32,
     sight: &Sight,
+    fresh: u32,
     statement: &Statement,
-) -> Option<(Resolved, List<Read>)>
+) -> Result<Action, Refusal>
     requires sees { SeesAlone pass.now.words sight.now }
     requires written { IsWritten statement.now }
     requires insertion { IsRowInsertion statement.now }
-    ensures found { IfSome result (λ r. IsFoundAlone pass.now fresh sight.now.version statement.now (statement_of r.0)) }
-    ensures rows { IfSome result (λ r. InsertsRows (statement_of r.0)) }
-    ensures reads { IfSome result (λ r. r.1 ≡ reads_of (statement_of r.0)) }
+    ensures resolved { IfOk result (λ action. IsResolved (history_of pass.now.words sight.now) (actions_before sight.now) pass.now.session fresh statement.now (plain.Act (action_of action))) }
+    ensures found { IfOk result (λ action. IsFoundAlone pass.now fresh sight.now.version statement.now (plain.Act (action_of action))) }
+    ensures rows { IfOk result (λ action. inserts_rows (action_of action) ≡ true) }
+    ensures room { IfErr result (λ why. says_full why ≡ false) }
+    ensures err { IfErr result (IsRefused (history_of pass.now.words sight.now) (actions_before sight.now) N.log.cap pass.now.words pass.now.session fresh statement.now) }
 {
-    match resolved_at(alloc, pass, sight, fresh, statement) {
-        Ok(found) => Some(found),
-        Err(why) => {
-            drop(why);
-            None
-        }
-    }
+    let found = match resolved_at(alloc, pass, sight, fresh, statement) {
+        Ok(found) => found,
+        Err(why) => return Err(why),
+    };
+    let Ok(action) = literal_act(found) else {
+        unreachable!()
+    };
+    Ok(action)
 }
 
-/// The refusal of an insertion of written rows for a full log or for want of memory. A full log is told at the newest
+/// The refusal of an insertion of written rows for a full log, or where memory runs out. A full log is told at the newest
 /// version, since the session may have seen a later one than that at which the names were found.
 fn wanting<N: Site, R: Wait>(
     rt: &R,
     alloc: Global,
     server: &Server<N>,
-    pass: Pass<N>,
-    seen: u32,
-    fresh: u32,
+    mut session: State<N>,
     why: Refusal,
-    statement: &Statement,
 ) -> (State<N>, Reply)
-    requires seen { seen ≤ length (commits_of pass.words) }
-    requires insertion { IsInsertion pass fresh statement.now }
-    requires want { IsWant N.log.cap pass.words why }
+    requires seen { session.seen ≤ length (commits_of session.pass.words) }
+    requires want { IsWant N.log.cap session.pass.words why }
     ensures session { IsSession result.0.pass.words result.0.seen result.0.transaction }
-    ensures longer { IsPrefix pass.words result.0.pass.words }
-    ensures kept { kept_of result.0.pass ≡ kept_of pass }
-    ensures made { result.0.pass.made ≡ pass.made }
+    ensures longer { IsPrefix session.pass.words result.0.pass.words }
+    ensures kept { kept_of result.0.pass ≡ kept_of session.pass }
+    ensures made { result.0.pass.made ≡ session.pass.made }
     ensures full { is_full result.1 ≡ true → says_full why ≡ true }
     ensures asked { is_unasked result.1 ≡ false }
-    ensures executes { (first : Seen) → Starts first pass → Executes N.log.cap (state_of first seen fresh None) (state_of result.0.pass result.0.seen result.0.fresh result.0.transaction) first.words result.0.pass.words statement.now result.1 }
+    ensures executes { (first : Seen) (st : StatementValue) → Starts first session.pass → IsInsertion session.pass session.fresh st → Executes N.log.cap (state_of first session.seen session.fresh None) (state_of result.0.pass result.0.seen result.0.fresh result.0.transaction) first.words result.0.pass.words st result.1 }
 {
-    let _before = pass.words();
+    session.transaction = None;
+    let _before = session.pass.words();
+    let seen = session.seen;
     let Refusal::Full = why else {
-        return refusal(pass, seen, fresh, None, seen, Refusal::Memory);
+        return refusal(session, seen, Refusal::Memory);
     };
-    let (pass, snapshot) = server.begin(rt, alloc, pass);
-    let _now = pass.words();
+    let (pass, snapshot) = server.begin(rt, alloc, session.pass);
+    session.pass = pass;
+    let _now = session.pass.words();
     match snapshot {
         Ok(snapshot) => {
             let at = snapshot.version;
             drop(snapshot);
-            refusal(pass, seen, fresh, None, at, Refusal::Full)
+            refusal(session, at, Refusal::Full)
         }
-        Err(_) => refusal(pass, seen, fresh, None, seen, Refusal::Memory),
+        Err(_) => refusal(session, seen, Refusal::Memory),
     }
 }
 
@@ -157,66 +165,67 @@ fn wanting<N: Site, R: Wait>(
 /// nothing, so that the version it is offered on may be any whose commits the session has seen.
 ///
 /// # Errors
-/// The pass as it was, where nothing is known or the names are not there. Nothing is known any more, and the statement can
-/// begin anew.
+/// The session as it was, where nothing is known or the names are not there. Nothing is known any more, and the statement
+/// can begin anew.
 pub(crate) fn insert_known<N: Site, R: Wait>(
     rt: &R,
     alloc: Global,
     server: &Server<N>,
-    mut pass: Pass<N>,
-    seen: u32,
-    fresh: u32,
+    mut session: State<N>,
     known: &mut Known,
     statement: &Statement,
-) -> Result<(State<N>, Reply), Pass<N>>
-    requires few { pass.mine < 2 ^ 18 }
-    requires seen { seen ≤ length (commits_of pass.words) }
-    requires known { IsKnown pass.words known.old }
+) -> Result<(State<N>, Reply), State<N>>
+    requires few { session.pass.mine < 2 ^ 18 }
+    requires seen { session.seen ≤ length (commits_of session.pass.words) }
+    requires known { IsKnown session.pass.words known.old }
     requires written { IsWritten statement.now }
     requires insertion { IsRowInsertion statement.now }
     ensures session { IfOk result (λ done. IsSession done.0.pass.words done.0.seen done.0.transaction) }
-    ensures makes { IfOk result (λ done. Makes (state_of pass seen fresh None) done.0.pass.words statement.now pass.made (done.0.pass.made + charge (is_full done.1))) }
+    ensures makes { IfOk result (λ done. Makes (state_of session.pass session.seen session.fresh None) done.0.pass.words statement.now session.pass.made (done.0.pass.made + charge (is_full done.1))) }
     ensures asked { IfOk result (λ done. is_unasked done.1 ≡ false) }
-    ensures executes { IfOk result (λ done. Executes N.log.cap (state_of pass seen fresh None) (state_of done.0.pass done.0.seen done.0.fresh done.0.transaction) pass.words done.0.pass.words statement.now done.1) }
+    ensures executes { IfOk result (λ done. Executes N.log.cap (state_of session.pass session.seen session.fresh None) (state_of done.0.pass done.0.seen done.0.fresh done.0.transaction) session.pass.words done.0.pass.words statement.now done.1) }
     ensures known { IfOk result (λ done. IsKnown done.0.pass.words known.new) }
-    ensures same { IfErr result (λ same. same ≡ pass) }
+    ensures same { IfErr result (λ same. same ≡ session) }
     ensures gone { IfErr result (λ _. IsNone known.new.sight) }
 {
-    let _begun = pass.words();
+    let _begun = session.pass.words();
     let Some(sight) = known.sight.take() else {
-        return Err(pass);
+        return Err(session);
     };
-    let Some((found, reads)) = found_known(alloc, &pass, fresh, &sight, statement) else {
+    let fresh = session.fresh;
+    let Ok(action) = insertion_at(alloc, &session.pass, &sight, fresh, statement) else {
         drop(sight);
-        return Err(pass);
+        return Err(session);
     };
     let base = sight.version;
-    let arena = server.arena();
-    let offering = literal_offer(arena, &mut pass, fresh, base, found, reads, statement);
-    let _now = pass.words();
+    let pass = &mut session.pass;
+    let offering = literal_offer(alloc, server.arena(), pass, fresh, base, action);
+    let _now = session.pass.words();
     let offering = match offering {
         Ok(offering) => offering,
         Err(why) => {
             drop(sight);
-            return Ok(wanting(rt, alloc, server, pass, seen, fresh, why, statement));
+            return Ok(wanting(rt, alloc, server, session, why));
         }
     };
     let Offering {
         offer,
         fresh: drawn,
     } = offering;
-    let (pass, outcome) = server.commit(rt, alloc, pass, &offer);
+    let (pass, outcome) = server.commit(rt, alloc, session.pass, &offer);
+    session.pass = pass;
     drop(offer);
-    let _after = pass.words();
+    let _after = session.pass.words();
     match committed_or(outcome) {
         Ok(at) => {
             known.sight = Some(sight);
-            let session = State::carrying(pass, seen, drawn, None, at);
-            Ok((session, Reply::Committed { at }))
+            session.fresh = drawn;
+            session.transaction = None;
+            Ok((session.carrying(at), Reply::Committed { at }))
         }
         Err(why) => {
             drop(sight);
-            Ok(wanting(rt, alloc, server, pass, seen, fresh, why, statement))
+            Ok(wanting(rt, alloc, server, session, why))
         }
     }
 }

@@ -5,13 +5,15 @@
 ghost use Rattle.std.specs.Prelude.{◌≡◌, ◌+◌, ℕ, List, true, false, [], IfOk, IfErr, option_map};
 ghost use Rattle.std.specs.Arc.{arc_value};
 ghost use mathlib.Core.List.{IsPrefix};
-ghost use Rattle.ct_condition.specs.Writes.{charge};
-ghost use Rattle.ct_history.specs.Kept.{kept_of};
+ghost use Rattle.ct_condition.specs.Writes.{charge, kept_of};
 ghost use Rattle.ct_keeper.specs.Offers.{world_in};
-ghost use Rattle.ct_query.specs.Reads.{reads_of};
-ghost use Rattle.ct_query.specs.Views.{statement_of};
+ghost use Rattle.ct_parse.specs.declared.tree.Statement.{Statement as StatementValue};
+ghost use Rattle.ct_query.specs.Plain as plain;
+ghost use Rattle.ct_query.specs.Reads.{action_reads};
+ghost use Rattle.ct_query.specs.Views.{action_of, statement_of};
 ghost use Rattle.ct_table.specs.Snapshot.{commits_to};
 ghost use Rattle.ct_statement.specs.Making.{is_full};
+ghost use Rattle.ct_statement.specs.Sources.{is_literal};
 ghost use Rattle.ct_statement.specs.Unmet.{IsWant};
 ghost use Rattle.ct_transaction.specs.Bounded.{Performs};
 ghost use Rattle.ct_transaction.specs.Prepared.{IsRefused};
@@ -20,8 +22,7 @@ ghost use Rattle.ct_session.specs.Outcomes.{world_offered};
 
 use ct_arena::{Arena, Pass, Site};
 use ct_keeper::Offer;
-use ct_parse::Statement;
-use ct_query::{Read, Resolved};
+use ct_query::{Action, Read, Resolved, reads};
 use ct_statement::{Proposal, Sight, Step, is_literal, propose_literal};
 use ct_transcript::Refusal;
 use ct_word::{List, Memory, World};
@@ -35,28 +36,51 @@ pub struct Offering {
     pub fresh: u32,
 }
 
+/// What an action reads.
+///
+/// # Errors
+/// `Memory` where there is none for the list.
+fn reads_of_action(alloc: Global, action: Action) -> Result<List<Read>, Memory>
+    ensures { IfOk result (λ found. found ≡ action_reads (action_of action)) }
+{
+    let acted = Resolved::Act(action);
+    let found = reads(alloc, &acted);
+    drop(acted);
+    found
+}
+
 /// A proposed action as it is offered, on the version that its statement saw, with what it reads and this world.
+///
+/// # Errors
+/// `Memory` where there is none for the list of what it reads.
 pub(crate) fn offering_of(
+    alloc: Global,
     base: u32,
     proposal: Proposal,
-    reads: List<Read>,
     kept: Option<Arc<World, Global>>,
-) -> Offering
-    ensures { result ≡ record { offer = record { base = base; reads = reads; changes = proposal.changes; kept = kept }; fresh = proposal.fresh } }
+) -> Result<Offering, Memory>
+    ensures { IfOk result (λ o. o ≡ record { offer = record { base = base; reads = action_reads (action_of proposal.action); changes = proposal.changes; kept = kept }; fresh = proposal.fresh }) }
 {
     let Proposal {
         action,
         changes,
         fresh,
     } = proposal;
-    drop(action);
-    let offer = Offer {
-        base,
-        reads,
-        changes,
-        kept,
-    };
-    Offering { offer, fresh }
+    match reads_of_action(alloc, action) {
+        Ok(reads) => {
+            let offer = Offer {
+                base,
+                reads,
+                changes,
+                kept,
+            };
+            Ok(Offering { offer, fresh })
+        }
+        Err(Memory) => {
+            drop(kept);
+            Err(Memory)
+        }
+    }
 }
 
 /// The world that the offer of an action has: the kept one after its step; where no step was made, none. It is shared, and
@@ -82,13 +106,25 @@ pub(crate) fn world_of(
     }
 }
 
-/// Whether what a statement does is an action whose change is all in its text.
-pub(crate) fn is_literal_act(resolved: &Resolved) -> bool
-    ensures { result ≡ true → IsLiteralAct (statement_of resolved.now) }
+/// The action that a statement does, where its change is all in its text.
+///
+/// # Errors
+/// What the statement does, where that is something else.
+pub(crate) fn literal_act(found: Resolved) -> Result<Action, Resolved>
+    ensures act { IfOk result (λ action. statement_of found ≡ plain.Act (action_of action)) }
+    ensures literal { IfOk result (λ action. is_literal (action_of action) ≡ true) }
+    ensures same { IfErr result (λ same. same ≡ found) }
+    ensures other { IfErr result (λ _. IsLiteralAct (statement_of found) → ⊥) }
 {
-    match resolved {
-        Resolved::Act(action) => is_literal(action),
-        _ => false,
+    match found {
+        Resolved::Act(action) => {
+            if is_literal(&action) {
+                Ok(action)
+            } else {
+                Err(Resolved::Act(action))
+            }
+        }
+        other => Err(other),
     }
 }
 
@@ -98,40 +134,31 @@ pub(crate) fn is_literal_act(resolved: &Resolved) -> bool
 /// # Errors
 /// `Full` where the log has no room, `Memory`.
 pub(crate) fn literal_offer<N: Site>(
+    alloc: Global,
     arena: &Arena<N>,
     pass: &mut Pass<N>,
     fresh: u32,
     base: u32,
-    found: Resolved,
-    reads: List<Read>,
-    statement: &Statement,
+    action: Action,
 ) -> Result<Offering, Refusal>
-    requires found { IsFoundAlone pass.old fresh base statement.now (statement_of found) }
-    requires literal { IsLiteralAct (statement_of found) }
-    requires reads { reads ≡ reads_of (statement_of found) }
+    requires found { (st : StatementValue) × IsFoundAlone pass.old fresh base st (plain.Act (action_of action)) }
+    requires literal { is_literal (action_of action) ≡ true }
     ensures longer { IsPrefix pass.old.words pass.new.words }
     ensures kept { kept_of pass.new ≡ kept_of pass.old }
-    ensures made { (counts widths : List ℕ → ℕ) → Performs false counts widths (statement_of found) pass.old.made (pass.new.made + charge (is_full result)) }
-    ensures ok { IfOk result (λ o. IsReadyToOffer pass.new fresh o statement.now) }
+    ensures made { (counts widths : List ℕ → ℕ) → Performs false counts widths (plain.Act (action_of action)) pass.old.made (pass.new.made + charge (is_full result)) }
+    ensures ok { (st : StatementValue) → IsFoundAlone pass.old fresh base st (plain.Act (action_of action)) → IfOk result (λ o. IsReadyToOffer pass.new fresh o st) }
     ensures base { IfOk result (λ o. o.offer.base ≡ base) }
     ensures want { IfErr result (IsWant N.log.cap pass.new.words) }
-    ensures err { IfErr result (IsRefused (commits_to pass.new.words base) [] N.log.cap pass.new.words pass.new.session fresh statement.now) }
+    ensures err { (st : StatementValue) → IsFoundAlone pass.old fresh base st (plain.Act (action_of action)) → IfErr result (IsRefused (commits_to pass.new.words base) [] N.log.cap pass.new.words pass.new.session fresh st) }
 {
-    let action = match found {
-        Resolved::Act(action) => action,
-        Resolved::Ask {
-            ask: _ask,
-            columns: _columns,
-            query: _query,
-        } => unreachable!(),
-        Resolved::Begin => unreachable!(),
-        Resolved::Commit => unreachable!(),
-        Resolved::Rollback => unreachable!(),
-    };
     let proposed = propose_literal(arena, pass, fresh, action);
     let _now = pass.words();
-    match proposed {
-        Ok(proposal) => Ok(offering_of(base, proposal, reads, None)),
-        Err(why) => Err(why),
+    let proposal = match proposed {
+        Ok(proposal) => proposal,
+        Err(why) => return Err(why),
+    };
+    match offering_of(alloc, base, proposal, None) {
+        Ok(offering) => Ok(offering),
+        Err(Memory) => Err(Refusal::Memory),
     }
 }

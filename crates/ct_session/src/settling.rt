@@ -33,12 +33,12 @@ pub enum Ready {
 /// the words before.
 ///
 /// # Errors
-/// The session and the refusal of any statement, for want of memory.
+/// The session and the refusal of any statement, where memory runs out.
 pub(crate) fn begun<N: Site, R: Wait>(
     rt: &R,
     alloc: Global,
     server: &Server<N>,
-    session: State<N>,
+    mut session: State<N>,
 ) -> Result<(State<N>, Sight), (State<N>, Reply)>
     requires seen { session.seen ≤ length (commits_of session.pass.words) }
     ensures begins { IfOk result (λ r. Begins session.pass r.0.pass r.1.version) }
@@ -48,24 +48,14 @@ pub(crate) fn begun<N: Site, R: Wait>(
     ensures fresh { IfOk result (λ r. r.0.fresh ≡ session.fresh) }
     ensures refused { (st : Statement) → IfErr result (λ r. IsDone N.log.cap session.pass session.seen session.fresh st r.0.pass r.0.seen r.0.fresh r.0.transaction r.1) }
 {
-    let State {
-        pass,
-        seen,
-        fresh,
-        transaction,
-    } = session;
-    drop(transaction);
-    let _words = pass.words();
-    let (pass, snapshot) = server.begin(rt, alloc, pass);
-    let _begun = pass.words();
+    session.transaction = None;
+    let _words = session.pass.words();
+    let (pass, snapshot) = server.begin(rt, alloc, session.pass);
+    session.pass = pass;
+    let _begun = session.pass.words();
     let Ok(snapshot) = snapshot else {
-        return Err(refusal(pass, seen, fresh, None, seen, Refusal::Memory));
-    };
-    let session = State {
-        pass,
-        seen,
-        fresh,
-        transaction: None,
+        let at = session.seen;
+        return Err(refusal(session, at, Refusal::Memory));
     };
     Ok((session, Sight::of(alloc, snapshot)))
 }
@@ -85,7 +75,7 @@ fn offered<N: Site, R: Wait>(
     rt: &R,
     alloc: Global,
     server: &Server<N>,
-    session: State<N>,
+    mut session: State<N>,
     offering: Offering,
 ) -> (State<N>, Reply)
     requires few { session.pass.mine < 2 ^ 18 }
@@ -94,25 +84,21 @@ fn offered<N: Site, R: Wait>(
     ensures done { (first : Seen) (st : Statement) → Begins first session.pass offering.offer.base → IsReadyToOffer session.pass session.fresh offering st → Readies session.pass.words offering.offer.base session.pass.session session.fresh st first.made session.pass.made → IsDone N.log.cap first session.seen session.fresh st result.0.pass result.0.seen result.0.fresh result.0.transaction result.1 }
     ensures stays { StillSeen session.pass.words result.0.pass.words }
 {
-    let State {
-        pass,
-        seen,
-        fresh,
-        transaction,
-    } = session;
-    drop(transaction);
-    let _words = pass.words();
+    session.transaction = None;
+    let _words = session.pass.words();
     let Offering {
         offer,
         fresh: drawn,
     } = offering;
     let base = offer.base;
-    let (pass, outcome) = server.commit(rt, alloc, pass, &offer);
+    let (pass, outcome) = server.commit(rt, alloc, session.pass, &offer);
+    session.pass = pass;
     drop(offer);
-    let _now = pass.words();
-    let after = fresh_after(fresh, drawn, &outcome);
-    let (at, reply) = replied(seen, base, outcome);
-    (State::carrying(pass, seen, after, None, at), reply)
+    let _now = session.pass.words();
+    let after = fresh_after(session.fresh, drawn, &outcome);
+    session.fresh = after;
+    let (at, reply) = replied(session.seen, base, outcome);
+    (session.carrying(at), reply)
 }
 
 /// The session and the reply after a statement that asked for this at a version: an answer is given, and an action offered.
@@ -120,7 +106,7 @@ pub(crate) fn settled<N: Site, R: Wait>(
     rt: &R,
     alloc: Global,
     server: &Server<N>,
-    session: State<N>,
+    mut session: State<N>,
     at: u32,
     ready: Result<Ready, Refusal>,
 ) -> (State<N>, Reply)
@@ -131,13 +117,11 @@ pub(crate) fn settled<N: Site, R: Wait>(
     ensures done { (first : Seen) (st : Statement) → Begins first session.pass at → IsAskedFor N.log.cap first.made session.pass session.fresh at st ready → IsDone N.log.cap first session.seen session.fresh st result.0.pass result.0.seen result.0.fresh result.0.transaction result.1 }
     ensures stays { StillSeen session.pass.words result.0.pass.words }
 {
+    session.transaction = None;
     let _words = session.pass.words();
     match ready {
-        Ok(Ready::Answer(answered)) => {
-            let session = State::carrying(session.pass, session.seen, session.fresh, None, at);
-            (session, reply_of(at, 0, answered))
-        }
+        Ok(Ready::Answer(answered)) => (session.carrying(at), reply_of(at, 0, answered)),
         Ok(Ready::Offer(offering)) => offered(rt, alloc, server, session, offering),
-        Err(why) => refusal(session.pass, session.seen, session.fresh, None, at, why),
+        Err(why) => refusal(session, at, why),
     }
 }

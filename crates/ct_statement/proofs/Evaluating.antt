@@ -6,7 +6,7 @@ use Rattle.ct_word.{specs.declared.values.CRow.CRow, specs.Value.same_text, spec
 use Rattle.ct_query.{specs.Bounds.{nodes, bound}, specs.Plain.{PlainQuery, PlainAction}, specs.Patterns.{query_pattern, count}, specs.Schema.schema}
 use Rattle.ct_query.{specs.Size.{size, rows_in, row_bound}, specs.declared.action.Ask.Ask, proofs.Sublists.sublist_of_sublist}
 use Rattle.ct_arena.specs.Seen.{Seen}
-use Rattle.ct_history.specs.Kept.{PassWrites}
+use Rattle.ct_condition.specs.Writes.{PassWrites}
 use Rattle.ct_operators.{specs.declared.table.CTable.CTable, specs.Tables.{cells_of, value_of_rows, AreRows}, proofs.Reaching.rows_wider}
 use Rattle.ct_table.{specs.Counting.count_of, specs.Denotes.{TableView, IsKept, Denotes}, specs.Snapshot.IsGlobal, proofs.QuerySizes.{row_bound_grows, size_grows}}
 use Rattle.ct_table.proofs.ByTables.{rows_in_found, tables_counted, answered_by_tables, pattern_by_tables}

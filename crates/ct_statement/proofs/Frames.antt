@@ -2,8 +2,7 @@
 use Rattle.std.{proofs.Common.{◌≡◌, ℕ, ◌+◌, ◌<◌, ◌≤◌, Bool, true, false, ◌∷◌, [], length, refl, ap₂, arith}, specs.Prelude.Err, proofs.lemmas.Bool.false≢true}
 use Rattle.ct_word.specs.WellFormed.{IsWellFormed}
 use Rattle.ct_arena.specs.Seen.{Seen}
-use Rattle.ct_condition.specs.Writes.{charge}
-use Rattle.ct_history.specs.Kept.{PassWrites}
+use Rattle.ct_condition.specs.Writes.{charge, PassWrites}
 use Rattle.ct_algebra.specs.declared.error.EvalError.{EvalError}
 use Rattle.ct_certain.{specs.Faults.is_full, specs.declared.error.CertainError.CertainError}
 use Rattle.ct_statement.{specs.Asking.{unanswered, unlisted}, specs.Making.says_full}

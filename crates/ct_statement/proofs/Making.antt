@@ -8,7 +8,8 @@ use Rattle.ct_query.{specs.Plain.{PlainQuery, PlainAction}, specs.Size.{row_boun
 use Rattle.ct_query.specs.Bounds.{ops, characters, width, query_words, side_words, nodes, change_words, applying_words, bound}
 use Rattle.ct_arena.specs.Seen.{Seen}
 use Rattle.ct_condition.{specs.Writes.charge, proofs.Writes.writes_of}
-use Rattle.ct_history.{specs.Kept.PassWrites, specs.Encodes.{IsChangeFor, HasOpsOf, asserted_by, row_words, encode_words}}
+use Rattle.ct_condition.specs.Writes.{PassWrites}
+use Rattle.ct_history.specs.Encodes.{IsChangeFor, HasOpsOf, asserted_by, row_words, encode_words}
 use Rattle.ct_operators.specs.declared.error.TableError.{TableError}
 use Rattle.ct_operators.specs.Tables.{IsRow}
 use Rattle.ct_table.{specs.Denotes.{TableView, Denotes, find_table}, proofs.ByTables.tables_counted, proofs.QuerySizes.row_bound_grows}

@@ -7,7 +7,7 @@ ghost use Rattle.ct_query.specs.Patterns.{count};
 ghost use Rattle.ct_query.specs.Schema.{schema};
 ghost use Rattle.ct_query.specs.Size.{rows_in, row_bound};
 ghost use Rattle.ct_query.specs.Views.{query_of};
-ghost use Rattle.ct_history.specs.Kept.{PassWrites};
+ghost use Rattle.ct_condition.specs.Writes.{PassWrites};
 ghost use Rattle.ct_table.specs.Counting.{count_of};
 ghost use Rattle.ct_statement.specs.Asking.{AnswersQuery, IsUnasked};
 ghost use Rattle.ct_statement.specs.Making.{is_full};

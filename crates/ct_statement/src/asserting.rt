@@ -8,7 +8,7 @@ ghost use Rattle.ct_query.specs.Patterns.{count};
 ghost use Rattle.ct_query.specs.Plain as plain;
 ghost use Rattle.ct_query.specs.Schema.{schema};
 ghost use Rattle.ct_query.specs.Views.{query_of};
-ghost use Rattle.ct_history.specs.Kept.{PassWrites};
+ghost use Rattle.ct_condition.specs.Writes.{PassWrites};
 ghost use Rattle.ct_operators.specs.Building.{HoldsWhere};
 ghost use Rattle.ct_operators.specs.Tables.{AreRows, value_of_rows};
 ghost use Rattle.ct_operators.specs.Terms.{TermOfRows};
@@ -43,6 +43,9 @@ fn has_many_pairs(rows: usize) -> bool
 }
 
 /// One row without cells, under the condition at a place.
+///
+/// # Errors
+/// `Memory` where there is none for the row.
 fn one_row(alloc: Global, cond: u32) -> Result<List<CRow>, Memory>
     ensures { IfOk result (λ rows. rows ≡ record { cells = []; cond = cond } ∷ []) }
 {
@@ -55,6 +58,9 @@ fn one_row(alloc: Global, cond: u32) -> Result<List<CRow>, Memory>
 }
 
 /// The place of the condition that a table has a row where one is wanted, or that it has none.
+///
+/// # Errors
+/// `Full` where the log has no room.
 fn has_row<N: Site>(
     arena: &Arena<N>,
     pass: &mut Pass<N>,

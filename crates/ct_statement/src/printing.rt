@@ -13,6 +13,9 @@ use ct_word::{CRow, List, Memory, Term, Text, term_at};
 use std::alloc::Global;
 
 /// The place of the global condition, and then those of the rows' conditions.
+///
+/// # Errors
+/// `Memory` where there is none for the list.
 fn roots(alloc: Global, global: u32, rows: &[CRow]) -> Result<Vec<u32>, Memory>
     ensures { IfOk result (λ places. places.items ≡ global ∷ map (λ r. r.cond) rows.now) }
 {
@@ -25,6 +28,9 @@ fn roots(alloc: Global, global: u32, rows: &[CRow]) -> Result<Vec<u32>, Memory>
 }
 
 /// The terms at the places of a row's cells.
+///
+/// # Errors
+/// `Memory` where there is none for the list.
 fn terms(alloc: Global, words: &[u64], cells: &[u32]) -> Result<List<Term>, Memory>
     requires formed { IsWellFormed words.now }
     requires cells { All (λ p. IsTrue (is_place_of words.now class.Term p)) cells.now }
@@ -38,6 +44,9 @@ fn terms(alloc: Global, words: &[u64], cells: &[u32]) -> Result<List<Term>, Memo
 }
 
 /// The rows under the conditions at these positions.
+///
+/// # Errors
+/// `Memory` where there is none for the list.
 fn printed_rows(
     alloc: Global,
     words: &[u64],

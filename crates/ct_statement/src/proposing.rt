@@ -4,7 +4,7 @@ ghost use Rattle.std.specs.Prelude.{◌≡◌, ◌+◌, ◌<◌, ◌≤◌, ◌^
 ghost use Rattle.ct_word.specs.declared.kinds.Class.TheVariants as class;
 ghost use Rattle.ct_word.specs.Reading.{change_list_at};
 ghost use Rattle.ct_word.specs.WellFormed.{is_place_of};
-ghost use Rattle.ct_condition.specs.Writes.{charge};
+ghost use Rattle.ct_condition.specs.Writes.{charge, PassWrites};
 ghost use Rattle.ct_query.specs.Bounds.{change_words};
 ghost use Rattle.ct_query.specs.Fits.{FitsAction};
 ghost use Rattle.ct_query.specs.Patterns.{count};
@@ -12,7 +12,6 @@ ghost use Rattle.ct_query.specs.Plain as plain;
 ghost use Rattle.ct_query.specs.Schema.{schema};
 ghost use Rattle.ct_query.specs.Views.{action_of};
 ghost use Rattle.ct_history.specs.Encodes.{IsEncodable};
-ghost use Rattle.ct_history.specs.Kept.{PassWrites};
 ghost use Rattle.ct_resolve.specs.Writing.{WritesAction};
 ghost use Rattle.ct_statement.specs.Drawing.{drawn};
 ghost use Rattle.ct_statement.specs.Making.{is_full, taken_rows, taking_words, widths_in};

@@ -1,4 +1,4 @@
-// What a query is asked.
+// The answer to a query.
 
 ghost use Rattle.std.specs.Prelude.{◌≡◌, None, [], length, IfOk, IfErr};
 ghost use Rattle.ct_query.specs.Bounds.{bound};
@@ -7,7 +7,7 @@ ghost use Rattle.ct_query.specs.Patterns.{count};
 ghost use Rattle.ct_query.specs.Plain as plain;
 ghost use Rattle.ct_query.specs.Schema.{schema};
 ghost use Rattle.ct_query.specs.Views.{query_of};
-ghost use Rattle.ct_history.specs.Kept.{PassWrites};
+ghost use Rattle.ct_condition.specs.Writes.{PassWrites};
 ghost use Rattle.ct_statement.specs.Answered.{Answers};
 ghost use Rattle.ct_statement.specs.Making.{is_full, widths_in};
 ghost use Rattle.ct_statement.specs.Sight.{IsSight, actions_before, history_of};
@@ -26,7 +26,7 @@ use ct_word::{List, Text};
 use std::alloc::Global;
 use std::thread::Threads;
 
-/// What a query is answered: its rows, or a list under the names of its columns.
+/// The answer to a query: its rows, or a list under the names of its columns.
 #[derive(Drop)]
 pub enum Answered {
     Rows(Answer),
@@ -40,8 +40,8 @@ pub enum Answered {
     },
 }
 
-/// What a query with these names of its columns is answered: its rows, or the possible ones or the certain tuples, which so
-/// many workers decide. The pass has the words of it.
+/// The answer to a query whose columns have these names: its rows, or the possible ones or the certain tuples, which so many
+/// workers decide. The pass has the words of it.
 ///
 /// # Errors
 /// `TooLarge` only where the query's size, by the counts of all rows that were ever made, is above 16,777,216; `Full`

@@ -11,7 +11,7 @@ ghost use Rattle.ct_query.specs.Bounds.{applying_words};
 ghost use Rattle.ct_query.specs.Patterns.{count};
 ghost use Rattle.ct_query.specs.Plain as plain;
 ghost use Rattle.ct_query.specs.Views.{action_of};
-ghost use Rattle.ct_history.specs.Kept.{PassWrites};
+ghost use Rattle.ct_condition.specs.Writes.{PassWrites};
 ghost use Rattle.ct_keeper.specs.Effects.{FitsEffect};
 ghost use Rattle.ct_statement.specs.Making.{is_full};
 ghost use Rattle.ct_statement.specs.Narrowing.{CanNarrow, IsBoth, IsDecidable, IsEffectFor, IsKeptFor, IsUnkept, IsWorldFor, IsWorldless, asserted, unapplied, undecided};
@@ -53,6 +53,9 @@ fn undecided(e: DecideError) -> Refusal
 /// Whether the condition at a place holds in some world, where the global condition, whose conjuncts are given, holds in the
 /// kept one. Where the place leads to the global condition by ANDs, only the other conditions there are asked about, and those
 /// conjuncts that have to do with them.
+///
+/// # Errors
+/// `Memory` where there is none for a decision.
 fn decided(
     alloc: Global,
     words: &[u64],
@@ -177,7 +180,7 @@ fn kept_for(
     }
 }
 
-/// The refusal for want of room or memory.
+/// The refusal where the log has no room or memory runs out.
 fn unapplied(e: TableError) -> Refusal
     ensures { result ≡ unapplied e }
 {

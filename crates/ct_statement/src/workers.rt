@@ -7,7 +7,7 @@ ghost use Rattle.ct_word.specs.Stands.{HasNoColumn};
 ghost use Rattle.ct_word.specs.Value.{World as WorldValue};
 ghost use Rattle.ct_word.specs.WellFormed.{IsWellFormed, is_place_of};
 ghost use Rattle.ct_operators.specs.Tables.{AreRows};
-ghost use Rattle.ct_history.specs.Kept.{PassWrites};
+ghost use Rattle.ct_condition.specs.Writes.{PassWrites};
 ghost use Rattle.ct_certain.specs.Certain.{IsKeptWorld, ListsCertain};
 ghost use Rattle.ct_certain.specs.Possible.{ListsPossible};
 ghost use Rattle.ct_certain.specs.Faults.{is_full};

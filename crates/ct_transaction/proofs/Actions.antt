@@ -18,11 +18,11 @@ pub record ForAction (words : List ℕ) (h : List PlainCommit) (before : List Pl
   pub reads_are : reads ≡ reads_of (plain.Act (action_of p.action))
 
 module _ (words : List ℕ) (h : List PlainCommit) (before : List PlainAction) (list : List PlainChange) (session fresh : ℕ) (sight : Sight) (st : Statement) (p : Proposal) (step : Option Step) (reads : List Read) where
-  pub prepared_action : IsPrepared words h before list session fresh sight st (prepared.Change p step reads) → ForAction words h before list session fresh sight st p step reads
-  prepared_action k = by_asked k.asked k.resolves k.prepared where
-    by_asked : (asked : PlainStatement) → resolved (schema h before) session fresh st ≡ Ok asked → IsPreparedFor words h before list fresh sight asked (prepared.Change p step reads)
+  pub prepared_action : IsPrepared words h before list session fresh sight st (prepared.Change p step) reads → ForAction words h before list session fresh sight st p step reads
+  prepared_action k = by_asked k.asked k.resolves k.reads_are k.prepared where
+    by_asked : (asked : PlainStatement) → resolved (schema h before) session fresh st ≡ Ok asked → reads ≡ reads_of asked → IsPreparedFor words h before list fresh sight asked (prepared.Change p step)
         → ForAction words h before list session fresh sight st p step reads
-    by_asked (plain.Act a) r i = subst (λ b. resolved (schema h before) session fresh st ≡ Ok (plain.Act b)
-        → IsChange words h before list fresh sight b (action_of p.action) p.changes p.fresh step × (reads ≡ reads_of (plain.Act b))
-        → ForAction words h before list session fresh sight st p step reads) i.0.action (λ s j. record { resolves = s; change = j.0; reads_are = j.1 }) r i
-    by_asked _ r i = absurd i
+    by_asked (plain.Act a) r e i = subst (λ b. resolved (schema h before) session fresh st ≡ Ok (plain.Act b) → reads ≡ reads_of (plain.Act b)
+        → IsChange words h before list fresh sight b (action_of p.action) p.changes p.fresh step
+        → ForAction words h before list session fresh sight st p step reads) i.action (λ s d j. record { resolves = s; change = j; reads_are = d }) r e i
+    by_asked _ r e i = absurd i

@@ -5,7 +5,7 @@ use Rattle.ct_word.{specs.Change.PlainCommit, specs.Reading.commits_of, specs.St
 use Rattle.ct_word.proofs.Prefixes.{commits_prefix, get_in_prefix, prefix_of_prefix}
 use Rattle.ct_query.{specs.Keeping.{Keeps, KeepsThroughout}, proofs.Keeping.same_throughout}
 use Rattle.ct_arena.{specs.Counts.{AreNumbered, numbers_by}, specs.Seen.Seen}
-use Rattle.ct_history.specs.Kept.{kept_of}
+use Rattle.ct_condition.specs.Writes.{kept_of}
 use Rattle.ct_keeper.{specs.Offers.commit_for, specs.Served.IsLastCommit, specs.declared.catalogue.Offer.Offer}
 use Rattle.ct_transaction.{specs.Answers.{Answers, GoesOn, commits_by}, proofs.Counted.front_and_one, proofs.Sameness.{StandsAs, commits_back, same_commit}}
 use Rattle.ct_transaction.{specs.declared.state.Open.Open, specs.Sessions.{state_of, transaction_of}, specs.State.carried, proofs.Own.own_commits_stay}

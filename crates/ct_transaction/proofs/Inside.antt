@@ -38,7 +38,7 @@ module _ (N : ℕ) (pass : Seen) (seen fresh : ℕ) (o : Open) (k : IsSession pa
 
   -- an answer to a query
   pub answered_inside : (given : Answered) (more : List Read) (o' : Open) (plus : ℕ) → plus ≡ length (actions_before o.sight) → transaction_of o' ≡ having_read more (transaction_of o)
-      → IsPrepared pass.words (history_of pass.words o.sight) (actions_before o.sight) (listed pass.words o.changes) pass.session fresh o.sight st (prepared.Answer given more)
+      → IsPrepared pass.words (history_of pass.words o.sight) (actions_before o.sight) (listed pass.words o.changes) pass.session fresh o.sight st (prepared.Answer given) more
       → (said : Reply) → said ≡ reply_of o.sight.version plus given → Executes N inside (carried o.sight.version (state_of pass seen fresh (Some o'))) pass.words pass.words st said
   answered_inside given more o' plus ep e p said is = λ x reads.
       subst (λ r. Answers N inside (state_of pass (max seen o.sight.version) fresh (Some o')) pass.words pass.words x r) (sym is)

@@ -6,7 +6,7 @@ use Rattle.ct_word.proofs.Prefixes.{place_within, place_in_prefix, change_list_i
 use Rattle.ct_query.{specs.Plain.PlainAction, specs.declared.action.Read.Read, specs.Agrees.Agrees, specs.Fits.FitAfter, specs.Reads.{with_reads, action_reads}}
 use Rattle.ct_query.{specs.Frame.reads_of_actions, specs.Patterns.count}
 use Rattle.ct_arena.specs.Seen.{Seen}
-use Rattle.ct_history.specs.Kept.{kept_of}
+use Rattle.ct_condition.specs.Writes.{kept_of}
 use Rattle.ct_table.specs.Snapshot.{commits_to}
 use Rattle.ct_parse.specs.declared.tree.Statement.{Statement}
 use Rattle.ct_transcript.specs.declared.reply.Refusal.{Refusal}
@@ -110,12 +110,12 @@ module _ (old new : Seen) (longer : IsPrefix old.words new.words) (kept : kept_o
   listed_kept : listed old.words changes ≡ listed new.words changes
   listed_kept = sym (listed_stays old.words new.words longer changes (actions_before sight) begun)
 
-  pub prepared_later : (p : Prepared) → IsPrepared new.words (history_of old.words sight) (actions_before sight) (listed old.words changes) old.session fresh sight st p
-      → IsPrepared new.words (history_of new.words sight) (actions_before sight) (listed new.words changes) new.session fresh sight st p
-  prepared_later p i =
-      subst (λ h. IsPrepared new.words h (actions_before sight) (listed new.words changes) new.session fresh sight st p) history_kept
-      (subst (λ l. IsPrepared new.words (history_of old.words sight) (actions_before sight) l new.session fresh sight st p) listed_kept
-      (subst (λ n. IsPrepared new.words (history_of old.words sight) (actions_before sight) (listed old.words changes) n fresh sight st p) session_kept i))
+  pub prepared_later : (p : Prepared) (reads : List Read) → IsPrepared new.words (history_of old.words sight) (actions_before sight) (listed old.words changes) old.session fresh sight st p reads
+      → IsPrepared new.words (history_of new.words sight) (actions_before sight) (listed new.words changes) new.session fresh sight st p reads
+  prepared_later p reads i =
+      subst (λ h. IsPrepared new.words h (actions_before sight) (listed new.words changes) new.session fresh sight st p reads) history_kept
+      (subst (λ l. IsPrepared new.words (history_of old.words sight) (actions_before sight) l new.session fresh sight st p reads) listed_kept
+      (subst (λ n. IsPrepared new.words (history_of old.words sight) (actions_before sight) (listed old.words changes) n fresh sight st p reads) session_kept i))
 
   pub refused_later : (N : ℕ) (why : Refusal) → IsRefused (history_of old.words sight) (actions_before sight) N new.words old.session fresh st why
       → IsRefused (history_of new.words sight) (actions_before sight) N new.words new.session fresh st why

@@ -3,7 +3,7 @@ use Rattle.std.{proofs.Common.{◌≡◌, ◌⊎◌, ℕ, ◌≤◌, List, [], �
 use Rattle.std.specs.Prelude.{Option, Some, None, Ok, IsNone, IsSome, option_map}
 use Rattle.ct_word.{specs.Change.PlainCommit, specs.Reading.commits_of, specs.StandsFor.StandsFor, proofs.Prefixes.commits_prefix}
 use Rattle.ct_arena.{specs.Seen.{Seen, tally_of}, specs.declared.tally.Tally.Tally}
-use Rattle.ct_history.specs.Kept.{kept_of}
+use Rattle.ct_condition.specs.Writes.{kept_of}
 use Rattle.ct_query.{specs.Plain.PlainStatement, specs.Schema.schema, specs.declared.schema.Schema.Schema}
 use Rattle.ct_parse.specs.declared.tree.Statement.{Statement}
 use Rattle.ct_resolve.specs.Statements.{resolved}

@@ -7,9 +7,9 @@ use Rattle.ct_word.{specs.Condition.holds_at, specs.Sublist.IsSublist, specs.Cha
 use Rattle.ct_word.{specs.StandsFor.StandsFor, proofs.Prefixes.{condition_in_prefix, place_within, prefix_of_prefix, prefix_same}}
 use Rattle.ct_derivation.{specs.declared.steps.Proof.Proof, proofs.Longer.accepted_longer}
 use Rattle.ct_arena.{specs.Seen.Seen, specs.Counts.AreNumbered}
-use Rattle.ct_history.specs.Kept.{kept_of}
+use Rattle.ct_condition.specs.Writes.{kept_of}
 use Rattle.ct_table.specs.Snapshot.{commits_to}
-use Rattle.ct_query.{specs.Plain.{PlainAction, PlainStatement, PlainQuery}, specs.declared.action.Ask.Ask, specs.declared.action.Read.Read, specs.Schema.schema}
+use Rattle.ct_query.{specs.Plain.{PlainAction, PlainStatement, PlainQuery}, specs.declared.action.Ask.Ask, specs.declared.action.Read.Read, specs.Reads.reads_of, specs.Schema.schema}
 use Rattle.ct_query.{specs.Bounds.bound, specs.Patterns.count, specs.declared.schema.Schema.Schema}
 use Rattle.ct_rewrite.{specs.declared.answer.PossibleRow.PossibleRow, specs.declared.answer.CertainRow.CertainRow}
 use Rattle.ct_transcript.{specs.declared.reply.Answer.Answer, specs.Means.{allowed, shown}, specs.Possible.PossibleRight, specs.Certain.CertainRight}
@@ -121,12 +121,12 @@ answered_at at plus n _ le = le
 
 -- what an answer was prepared for
 pub prepared_answer : (words : List ℕ) (h : List PlainCommit) (before : List PlainAction) (list : List PlainChange) (session fresh : ℕ) (sight : Sight) (st : Statement) (given : Answered) (reads : List Read)
-    → IsPrepared words h before list session fresh sight st (prepared.Answer given reads) → ForAnswer words h before session fresh st given reads
-prepared_answer words h before list session fresh sight st given reads p = by_asked p.asked p.resolves p.prepared where
-  by_asked : (asked : PlainStatement) → resolved (schema h before) session fresh st ≡ Ok asked → IsPreparedFor words h before list fresh sight asked (prepared.Answer given reads)
+    → IsPrepared words h before list session fresh sight st (prepared.Answer given) reads → ForAnswer words h before session fresh st given reads
+prepared_answer words h before list session fresh sight st given reads p = by_asked p.asked p.resolves p.reads_are p.prepared where
+  by_asked : (asked : PlainStatement) → resolved (schema h before) session fresh st ≡ Ok asked → reads ≡ reads_of asked → IsPreparedFor words h before list fresh sight asked (prepared.Answer given)
       → ForAnswer words h before session fresh st given reads
-  by_asked (plain.Asks k columns query) resolves o = record { kind = k; columns = columns; query = query; resolves = resolves; answers = o.0; reads_are = o.1 }
-  by_asked _ resolves o = absurd o
+  by_asked (plain.Asks k columns query) resolves e o = record { kind = k; columns = columns; query = query; resolves = resolves; answers = o; reads_are = e }
+  by_asked _ resolves e o = absurd o
 
 -- a statement that sees a version of the words with these actions, whatever history stands for them; the words of it are there
 module _ (N : ℕ) (s : SessionState) (x : List ℕ) (st : Statement) (reads : ReadsAs x st) (now : List ℕ) (version : ℕ) (actions : List PlainAction) (within : version ≤ length (commits_of now))

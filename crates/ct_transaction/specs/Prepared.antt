@@ -3,8 +3,7 @@ use Rattle.std.specs.Prelude.{◌≡◌, ◌≢◌, ◌+◌, ℕ, Bool, true, fa
 use mathlib.Core.List.{IsPrefix}
 use Rattle.ct_word.specs.Change.{PlainChange, PlainCommit}
 use Rattle.ct_arena.specs.Seen.{Seen}
-use Rattle.ct_condition.specs.Writes.{charge}
-use Rattle.ct_history.specs.Kept.{kept_of}
+use Rattle.ct_condition.specs.Writes.{charge, kept_of}
 use Rattle.ct_query.specs.Patterns.{count}
 use Rattle.ct_query.specs.Plain.{PlainAction, PlainQuery, PlainStatement}
 use Rattle.ct_query.specs.Plain as plain
@@ -60,16 +59,15 @@ pub record IsChange (words : List ℕ) (h : List PlainCommit) (before : List Pla
 
 -- what a statement with positions asks for, ready to be given
 abbrev pub IsPreparedFor : List ℕ → List PlainCommit → List PlainAction → List PlainChange → ℕ → Sight → PlainStatement → Prepared → Type 0
-IsPreparedFor words h before list fresh s (plain.Act a) (prepared.Change proposal step reads) =
-    IsChange words h before list fresh s a (action_of proposal.action) proposal.changes proposal.fresh step × (reads ≡ reads_of (plain.Act a))
-IsPreparedFor words h before list fresh s (plain.Asks k columns query) (prepared.Answer answered reads) =
-    Answers h before words k columns query answered × (reads ≡ reads_of (plain.Asks k columns query))
+IsPreparedFor words h before list fresh s (plain.Act a) (prepared.Change proposal step) = IsChange words h before list fresh s a (action_of proposal.action) proposal.changes proposal.fresh step
+IsPreparedFor words h before list fresh s (plain.Asks k columns query) (prepared.Answer answered) = Answers h before words k columns query answered
 IsPreparedFor words h before list fresh s _ _ = ⊥
 
--- a statement resolves to what is prepared
-pub record IsPrepared (words : List ℕ) (h : List PlainCommit) (before : List PlainAction) (list : List PlainChange) (session fresh : ℕ) (s : Sight) (st : Statement) (p : Prepared) : Type 0 where
+-- a statement resolves to what is prepared, and reads these
+pub record IsPrepared (words : List ℕ) (h : List PlainCommit) (before : List PlainAction) (list : List PlainChange) (session fresh : ℕ) (s : Sight) (st : Statement) (p : Prepared) (reads : List Read) : Type 0 where
   pub asked : PlainStatement
   pub resolves : resolved (schema h before) session fresh st ≡ Ok asked
+  pub reads_are : reads ≡ reads_of asked
   pub prepared : IsPreparedFor words h before list fresh s asked p
 
 -- what an answer was prepared for
@@ -115,17 +113,16 @@ pub record IsResolved (h : List PlainCommit) (before : List PlainAction) (sessio
 
 -- the step of an action was made, in a transaction and for an assertion
 abbrev pub needs_step : Bool → Prepared → Type 0
-needs_step true (prepared.Change proposal step reads) = IsSome step
-needs_step false (prepared.Change proposal step reads) = IsTrue (is_assertion (action_of proposal.action)) → IsSome step
-needs_step inside (prepared.Answer answered reads) = Unit {0}
+needs_step true (prepared.Change proposal step) = IsSome step
+needs_step false (prepared.Change proposal step) = IsTrue (is_assertion (action_of proposal.action)) → IsSome step
+needs_step inside (prepared.Answer answered) = Unit {0}
 
--- a statement with positions that is no order can be performed at what is seen: it fits, can be written, and reads these
-pub record IsPerformable (words : List ℕ) (s : Sight) (asked : PlainStatement) (reads : List Read) : Type 0 where
+-- a statement with positions that is no order can be performed at what is seen: it fits, and can be written
+pub record IsPerformable (words : List ℕ) (s : Sight) (asked : PlainStatement) : Type 0 where
   pub sight : IsSight words s
   pub fits : FitsStatement (schema (history_of words s) (actions_before s)).tables asked
   pub writes : WritesStatement asked
   pub plain : IsNoPlainOrder asked
-  pub reads_are : reads ≡ reads_of asked
 
 -- a call prepared a statement with positions at what it sees, in a transaction or outside, or something is wanting for it. The
 -- words only grew, and what was made is at most its words

@@ -11,15 +11,14 @@ ghost use Rattle.ct_transaction.specs.Sessions.{IsSession, state_of};
 
 use crate::state::{Open, State};
 use crate::within::refused;
-use ct_arena::{Pass, Site};
+use ct_arena::Site;
 use ct_keeper::{KeeperError, Offer, Outcome, Server};
-use ct_parse::Statement;
 use ct_transcript::{Refusal, Reply};
 use std::alloc::Global;
 use std::sync::{Arc, Wait};
 
-/// The reply to an offer with this base, and the version that it carries. Want of memory rests on no version, so it
-/// stands at the one that was seen before.
+/// The reply to an offer with this base, and the version that it carries. A refusal since memory ran out rests on no
+/// version, and stands at the one that was seen before.
 pub fn replied(seen: u32, base: u32, outcome: Result<Outcome, KeeperError>) -> (u32, Reply)
     ensures version { result.0 ≡ outcome_version seen base outcome }
     ensures reply { result.1 ≡ outcome_reply seen base outcome }
@@ -67,30 +66,26 @@ fn open_after(outcome: &Result<Outcome, KeeperError>, transaction: Open) -> Opti
     }
 }
 
-/// COMMIT of the open transaction, whose change list was begun at this place: it is offered to the server. Where something
+/// COMMIT of the open transaction, whose change list stands at this place: it is offered to the server. Where something
 /// is wanting, the transaction stays.
 fn offered<N: Site, R: Wait>(
     rt: &R,
     alloc: Global,
     server: &Server<N>,
-    pass: Pass<N>,
-    seen: u32,
-    fresh: u32,
+    mut session: State<N>,
     transaction: Open,
     changes: u32,
-    statement: &Statement,
 ) -> (State<N>, Reply)
-    requires session { IsSession pass.words seen (Some transaction) }
-    requires few { pass.mine < 2 ^ 18 }
+    requires session { IsSession session.pass.words session.seen (Some transaction) }
+    requires few { session.pass.mine < 2 ^ 18 }
     requires begun { transaction.changes ≡ Some changes }
-    requires order { statement.now ≡ tree.Commit }
     ensures session { IsSession result.0.pass.words result.0.seen result.0.transaction }
-    ensures makes { Makes (state_of pass seen fresh (Some transaction)) result.0.pass.words statement.now pass.made (result.0.pass.made + charge (is_full result.1)) }
-    ensures executes { Executes N.log.cap (state_of pass seen fresh (Some transaction)) (state_of result.0.pass result.0.seen result.0.fresh result.0.transaction) pass.words result.0.pass.words statement.now result.1 }
+    ensures makes { Makes (state_of session.pass session.seen session.fresh (Some transaction)) result.0.pass.words tree.Commit session.pass.made (result.0.pass.made + charge (is_full result.1)) }
+    ensures executes { Executes N.log.cap (state_of session.pass session.seen session.fresh (Some transaction)) (state_of result.0.pass result.0.seen result.0.fresh result.0.transaction) session.pass.words result.0.pass.words tree.Commit result.1 }
 {
-    let _words = pass.words();
+    let _words = session.pass.words();
     let Ok(kept) = Arc::try_clone(&transaction.sight.kept) else {
-        return refused(pass, seen, fresh, transaction, statement, Refusal::Memory);
+        return refused(session, transaction, Refusal::Memory);
     };
     let Open {
         sight,
@@ -104,8 +99,9 @@ fn offered<N: Site, R: Wait>(
         changes,
         kept: Some(kept),
     };
-    let (pass, outcome) = server.commit(rt, alloc, pass, &offer);
-    let _now = pass.words();
+    let (pass, outcome) = server.commit(rt, alloc, session.pass, &offer);
+    session.pass = pass;
+    let _now = session.pass.words();
     let Offer { reads, .. } = offer;
     let transaction = Open {
         sight,
@@ -113,8 +109,9 @@ fn offered<N: Site, R: Wait>(
         reads,
     };
     let left = open_after(&outcome, transaction);
-    let (at, reply) = replied(seen, base, outcome);
-    (State::carrying(pass, seen, fresh, left, at), reply)
+    session.transaction = left;
+    let (at, reply) = replied(session.seen, base, outcome);
+    (session.carrying(at), reply)
 }
 
 /// COMMIT of the open transaction. One without actions commits nothing.
@@ -122,38 +119,25 @@ pub(crate) fn commit<N: Site, R: Wait>(
     rt: &R,
     alloc: Global,
     server: &Server<N>,
-    session: State<N>,
-    statement: &Statement,
+    mut session: State<N>,
 ) -> (State<N>, Reply)
     requires session { IsSession session.pass.words session.seen session.transaction }
     requires few { session.pass.mine < 2 ^ 18 }
     requires some { IsSome session.transaction }
-    requires order { statement.now ≡ tree.Commit }
     ensures session { IsSession result.0.pass.words result.0.seen result.0.transaction }
-    ensures makes { Makes (state_of session.pass session.seen session.fresh session.transaction) result.0.pass.words statement.now session.pass.made (result.0.pass.made + charge (is_full result.1)) }
-    ensures executes { Executes N.log.cap (state_of session.pass session.seen session.fresh session.transaction) (state_of result.0.pass result.0.seen result.0.fresh result.0.transaction) session.pass.words result.0.pass.words statement.now result.1 }
+    ensures makes { Makes (state_of session.pass session.seen session.fresh session.transaction) result.0.pass.words tree.Commit session.pass.made (result.0.pass.made + charge (is_full result.1)) }
+    ensures executes { Executes N.log.cap (state_of session.pass session.seen session.fresh session.transaction) (state_of result.0.pass result.0.seen result.0.fresh result.0.transaction) session.pass.words result.0.pass.words tree.Commit result.1 }
 {
     let _words = session.pass.words();
-    let State {
-        pass,
-        seen,
-        fresh,
-        transaction,
-    } = session;
-    let Some(open) = transaction else {
+    let Some(transaction) = session.transaction.take() else {
         unreachable!()
     };
-    match open.changes {
+    match transaction.changes {
         None => {
-            let at = open.sight.version;
-            drop(open);
-            (
-                State::carrying(pass, seen, fresh, None, at),
-                Reply::Nothing { at },
-            )
+            let at = transaction.sight.version;
+            drop(transaction);
+            (session.carrying(at), Reply::Nothing { at })
         }
-        Some(changes) => offered(
-            rt, alloc, server, pass, seen, fresh, open, changes, statement,
-        ),
+        Some(changes) => offered(rt, alloc, server, session, transaction, changes),
     }
 }

@@ -5,13 +5,10 @@ ghost use mathlib.Core.List.{IsPrefix};
 ghost use Rattle.ct_word.specs.declared.kinds.Class.TheVariants as class;
 ghost use Rattle.ct_word.specs.Change.{PlainChange};
 ghost use Rattle.ct_word.specs.WellFormed.{is_place_of};
-ghost use Rattle.ct_condition.specs.Writes.{charge};
-ghost use Rattle.ct_history.specs.Kept.{kept_of};
+ghost use Rattle.ct_condition.specs.Writes.{charge, kept_of};
 ghost use Rattle.ct_query.specs.Patterns.{count};
 ghost use Rattle.ct_query.specs.Plain as plain;
-ghost use Rattle.ct_query.specs.Reads.{reads_of};
 ghost use Rattle.ct_query.specs.Views.{action_of, query_of, statement_of};
-ghost use Rattle.ct_query.specs.declared.action.Read.{Read as ReadValue};
 ghost use Rattle.ct_statement.specs.Making.{is_full, says_full};
 ghost use Rattle.ct_statement.specs.Proposals.{IsProposal};
 ghost use Rattle.ct_statement.specs.Sight.{IsSight, actions_before, history_of};
@@ -24,7 +21,7 @@ ghost use Rattle.ct_transaction.specs.declared.preparing.Prepared.TheVariants as
 
 use ct_arena::{Arena, Pass, Site};
 use ct_parse::Statement;
-use ct_query::{Action, Ask, Query, Read, Resolved, reads};
+use ct_query::{Action, Ask, Query, Resolved};
 use ct_resolve::{ResolveError, resolve};
 use ct_statement::{Answered, Proposal, Sight, Step, Workers, answer_to, propose, step_of};
 use ct_transcript::Refusal;
@@ -32,19 +29,15 @@ use ct_word::{List, Text};
 use std::alloc::Global;
 use std::thread::Threads;
 
-/// What a statement asks for, ready to be given, with what it reads: an action as it is proposed, with the step to what
-/// is seen after it where that is needed, or the answer to a query.
+/// What a statement asks for, ready to be given: an action as it is proposed, with the step to what is seen after it where
+/// that is needed, or the answer to a query.
 #[derive(Drop)]
 pub enum Prepared {
     Change {
         proposal: Proposal,
         step: Option<Step>,
-        reads: List<Read>,
     },
-    Answer {
-        answered: Answered,
-        reads: List<Read>,
-    },
+    Answer(Answered),
 }
 
 /// The refusal of a name or a count that does not fit.
@@ -91,7 +84,7 @@ fn step_of_assertion<N: Site>(
     ensures kept { kept_of pass.new ≡ kept_of pass.old }
     ensures made { pass.new.made + charge (is_full result) ≤ pass.old.made + step_words false (count (history_of pass.old.words sight.now) (actions_before sight.now)) (action_of proposal.now.action) }
     ensures step { IfOk result (IsStepIf pass.new.words sight.now (action_of proposal.now.action)) }
-    ensures needs { (reads : List ReadValue) → IfOk result (λ step. needs_step false (prepared.Change proposal.now step reads)) }
+    ensures needs { IfOk result (λ step. needs_step false (prepared.Change proposal.now step)) }
     ensures err { IfErr result (IsUnmet (history_of pass.old.words sight.now) (actions_before sight.now) N.log.cap pass.new.words (plain.Act (action_of proposal.now.action))) }
 {
     if !is_assertion(&proposal.action) {
@@ -116,10 +109,9 @@ fn change_within<N: Site>(
     list: Option<u32>,
     fresh: u32,
     action: Action,
-    reads: List<Read>,
 ) -> Result<Prepared, Refusal>
     requires list { IfSome list (λ place. IsTrue (is_place_of pass.old.words class.ChangeList place)) }
-    requires asks { IsPerformable pass.old.words sight.now (plain.Act (action_of action)) reads }
+    requires asks { IsPerformable pass.old.words sight.now (plain.Act (action_of action)) }
     ensures { Prepares true N.log.cap pass.old pass.new sight.now list fresh (plain.Act (action_of action)) result }
 {
     let proposal = match propose(alloc, arena, pass, sight, list, fresh, action) {
@@ -133,7 +125,6 @@ fn change_within<N: Site>(
         Ok(step) => Ok(Prepared::Change {
             proposal,
             step: Some(step),
-            reads,
         }),
         Err(why) => {
             drop(proposal);
@@ -154,9 +145,8 @@ fn change_alone<N: Site>(
     sight: &Sight,
     fresh: u32,
     action: Action,
-    reads: List<Read>,
 ) -> Result<Prepared, Refusal>
-    requires asks { IsPerformable pass.old.words sight.now (plain.Act (action_of action)) reads }
+    requires asks { IsPerformable pass.old.words sight.now (plain.Act (action_of action)) }
     ensures { Prepares false N.log.cap pass.old pass.new sight.now None fresh (plain.Act (action_of action)) result }
 {
     let proposal = match propose(alloc, arena, pass, sight, None, fresh, action) {
@@ -167,11 +157,7 @@ fn change_alone<N: Site>(
     let _ = pass.words();
     let step = step_of_assertion(alloc, arena, pass, sight, &proposal);
     match step {
-        Ok(step) => Ok(Prepared::Change {
-            proposal,
-            step,
-            reads,
-        }),
+        Ok(step) => Ok(Prepared::Change { proposal, step }),
         Err(why) => {
             drop(proposal);
             Err(why)
@@ -179,7 +165,7 @@ fn change_alone<N: Site>(
     }
 }
 
-/// The answer to a query with these reads. The pass has the words of it. So many workers decide its questions, each on a
+/// The answer to a query. The pass has the words of it. So many workers decide its questions, each on a
 /// thread of its own where one can be made.
 ///
 /// # Errors
@@ -193,16 +179,15 @@ fn answered<N: Site, R: Threads + Sync>(
     ask: Ask,
     columns: List<Text>,
     query: Query,
-    reads: List<Read>,
     workers: Workers,
 ) -> Result<Prepared, Refusal>
-    requires asks { IsPerformable pass.old.words sight.now (plain.Asks ask columns (query_of query)) reads }
+    requires asks { IsPerformable pass.old.words sight.now (plain.Asks ask columns (query_of query)) }
     ensures { (inside : Bool) (list : Option ℕ) (fresh : ℕ) → Prepares inside N.log.cap pass.old pass.new sight.now list fresh (plain.Asks ask columns (query_of query)) result }
 {
     let answered = answer_to(rt, alloc, arena, pass, sight, ask, columns, &query, workers);
     drop(query);
     match answered {
-        Ok(answered) => Ok(Prepared::Answer { answered, reads }),
+        Ok(answered) => Ok(Prepared::Answer(answered)),
         Err(why) => Err(why),
     }
 }
@@ -223,24 +208,19 @@ pub(crate) fn perform_within<N: Site, R: Threads + Sync>(
     list: Option<u32>,
     fresh: u32,
     resolved: Resolved,
-    reads: List<Read>,
     workers: Workers,
 ) -> Result<Prepared, Refusal>
     requires list { IfSome list (λ place. IsTrue (is_place_of pass.old.words class.ChangeList place)) }
-    requires asks { IsPerformable pass.old.words sight.now (statement_of resolved) reads }
+    requires asks { IsPerformable pass.old.words sight.now (statement_of resolved) }
     ensures { Prepares true N.log.cap pass.old pass.new sight.now list fresh (statement_of resolved) result }
 {
     match resolved {
-        Resolved::Act(action) => change_within(
-            alloc, arena, pass, sight, list, fresh, action, reads,
-        ),
+        Resolved::Act(action) => change_within(alloc, arena, pass, sight, list, fresh, action),
         Resolved::Ask {
             ask,
             columns,
             query,
-        } => answered(
-            rt, alloc, arena, pass, sight, ask, columns, query, reads, workers,
-        ),
+        } => answered(rt, alloc, arena, pass, sight, ask, columns, query, workers),
         Resolved::Begin => unreachable!(),
         Resolved::Commit => unreachable!(),
         Resolved::Rollback => unreachable!(),
@@ -262,28 +242,25 @@ pub fn perform_alone<N: Site, R: Threads + Sync>(
     sight: &Sight,
     fresh: u32,
     resolved: Resolved,
-    reads: List<Read>,
     workers: Workers,
 ) -> Result<Prepared, Refusal>
-    requires asks { IsPerformable pass.old.words sight.now (statement_of resolved) reads }
+    requires asks { IsPerformable pass.old.words sight.now (statement_of resolved) }
     ensures { Prepares false N.log.cap pass.old pass.new sight.now None fresh (statement_of resolved) result }
 {
     match resolved {
-        Resolved::Act(action) => change_alone(alloc, arena, pass, sight, fresh, action, reads),
+        Resolved::Act(action) => change_alone(alloc, arena, pass, sight, fresh, action),
         Resolved::Ask {
             ask,
             columns,
             query,
-        } => answered(
-            rt, alloc, arena, pass, sight, ask, columns, query, reads, workers,
-        ),
+        } => answered(rt, alloc, arena, pass, sight, ask, columns, query, workers),
         Resolved::Begin => unreachable!(),
         Resolved::Commit => unreachable!(),
         Resolved::Rollback => unreachable!(),
     }
 }
 
-/// A statement with positions for its names, at what it sees, and what it reads; it is no BEGIN, COMMIT or ROLLBACK.
+/// A statement with positions for its names, at what it sees; it is no BEGIN, COMMIT or ROLLBACK.
 ///
 /// # Errors
 /// The first fault of its names and counts; `Memory`.
@@ -293,26 +270,17 @@ pub fn resolved_at<N: Site>(
     sight: &Sight,
     fresh: u32,
     statement: &Statement,
-) -> Result<(Resolved, List<Read>), Refusal>
+) -> Result<Resolved, Refusal>
     requires sight { IsSight pass.now.words sight.now }
     requires written { IsWritten statement.now }
     requires plain { IsNoOrder statement.now }
-    ensures ok { IfOk result (λ r. IsResolved (history_of pass.now.words sight.now) (actions_before sight.now) pass.now.session fresh statement.now (statement_of r.0)) }
-    ensures reads { IfOk result (λ r. r.1 ≡ reads_of (statement_of r.0)) }
+    ensures ok { IfOk result (λ r. IsResolved (history_of pass.now.words sight.now) (actions_before sight.now) pass.now.session fresh statement.now (statement_of r)) }
     ensures room { IfErr result (λ why. says_full why ≡ false) }
     ensures err { IfErr result (IsRefused (history_of pass.now.words sight.now) (actions_before sight.now) N.log.cap pass.now.words pass.now.session fresh statement.now) }
 {
     let session = pass.session();
-    let db = sight.tables.db();
-    let resolved = match resolve(alloc, db, session, fresh, statement) {
-        Ok(resolved) => resolved,
-        Err(e) => return Err(named(e)),
-    };
-    match reads(alloc, &resolved) {
-        Ok(reads) => Ok((resolved, reads)),
-        Err(_) => {
-            drop(resolved);
-            Err(Refusal::Memory)
-        }
+    match resolve(alloc, sight.tables.db(), session, fresh, statement) {
+        Ok(resolved) => Ok(resolved),
+        Err(e) => Err(named(e)),
     }
 }

@@ -10,8 +10,8 @@ ghost use Rattle.ct_transaction.specs.Sessions.{IsSession, state_of};
 ghost use Rattle.ct_transaction.specs.State.{SessionState, carried};
 ghost use Rattle.ct_transcript.specs.declared.reply.Reply.TheVariants as reply;
 
-use crate::state::{Open, State};
-use ct_arena::{Pass, Site};
+use crate::state::State;
+use ct_arena::Site;
 use ct_statement::Answered;
 use ct_transcript::{Refusal, Reply};
 
@@ -36,8 +36,8 @@ pub fn reply_of(at: u32, plus: u32, answered: Answered) -> Reply
     }
 }
 
-/// The version that a refusal stands at: the one that the statement saw. Want of memory rests on no version, so it
-/// stands at the one that was seen before.
+/// The version that a refusal stands at: the one that the statement saw. A refusal since memory ran out rests
+/// on no version, and stands at the one that was seen before.
 fn standing(seen: u32, version: u32, why: &Refusal) -> u32
     ensures { result ≡ standing seen version why.now }
 {
@@ -47,24 +47,14 @@ fn standing(seen: u32, version: u32, why: &Refusal) -> u32
     }
 }
 
-/// The session and the reply where a statement that saw this version is refused. The transaction is the one that stays.
-pub fn refusal<N: Site>(
-    pass: Pass<N>,
-    seen: u32,
-    fresh: u32,
-    transaction: Option<Open>,
-    version: u32,
-    why: Refusal,
-) -> (State<N>, Reply)
-    ensures pass { result.0.pass ≡ pass }
+/// The session and the reply where a statement that saw this version is refused. The transaction stays.
+pub fn refusal<N: Site>(session: State<N>, version: u32, why: Refusal) -> (State<N>, Reply)
+    ensures pass { result.0.pass ≡ session.pass }
     ensures full { is_full result.1 ≡ says_full why }
     ensures unasked { is_unasked result.1 ≡ is_of_name why }
-    ensures session { IsSession pass.words (max seen (standing seen version why)) transaction → IsSession result.0.pass.words result.0.seen result.0.transaction }
-    ensures executes { (room : ℕ) (s : SessionState) (words : List ℕ) (st : Statement) → Executes room s (carried (standing seen version why) (state_of pass seen fresh transaction)) words pass.words st (reply.Refused (standing seen version why) why) → Executes room s (state_of result.0.pass result.0.seen result.0.fresh result.0.transaction) words result.0.pass.words st result.1 }
+    ensures session { IsSession session.pass.words (max session.seen (standing session.seen version why)) session.transaction → IsSession result.0.pass.words result.0.seen result.0.transaction }
+    ensures executes { (room : ℕ) (s : SessionState) (words : List ℕ) (st : Statement) → Executes room s (carried (standing session.seen version why) (state_of session.pass session.seen session.fresh session.transaction)) words session.pass.words st (reply.Refused (standing session.seen version why) why) → Executes room s (state_of result.0.pass result.0.seen result.0.fresh result.0.transaction) words result.0.pass.words st result.1 }
 {
-    let at = standing(seen, version, &why);
-    (
-        State::carrying(pass, seen, fresh, transaction, at),
-        Reply::Refused { at, why },
-    )
+    let at = standing(session.seen, version, &why);
+    (session.carrying(at), Reply::Refused { at, why })
 }

@@ -38,24 +38,14 @@ pub struct State<N: Site> {
 }
 
 impl<N: Site> State<N> {
-    /// The session of this pass, these numbers and this transaction, after a reply that carries a version: it has then seen
-    /// that version.
-    pub fn carrying(
-        pass: Pass<N>,
-        seen: u32,
-        fresh: u32,
-        transaction: Option<Open>,
-        version: u32,
-    ) -> State<N>
-        ensures pass { result.pass ≡ pass }
-        ensures session { IsSession pass.words (max seen version) transaction → IsSession result.pass.words result.seen result.transaction }
-        ensures executes { (room : ℕ) (s : SessionState) (words : List ℕ) (st : StatementValue) (r : ReplyValue) → Executes room s (carried version (state_of pass seen fresh transaction)) words pass.words st r → Executes room s (state_of result.pass result.seen result.fresh result.transaction) words result.pass.words st r }
+    /// The session after a reply that carries a version: it has then seen that version.
+    pub fn carrying(self, version: u32) -> State<N>
+        ensures pass { result.pass ≡ self.pass }
+        ensures session { IsSession self.pass.words (max self.seen version) self.transaction → IsSession result.pass.words result.seen result.transaction }
+        ensures executes { (room : ℕ) (s : SessionState) (words : List ℕ) (st : StatementValue) (r : ReplyValue) → Executes room s (carried version (state_of self.pass self.seen self.fresh self.transaction)) words self.pass.words st r → Executes room s (state_of result.pass result.seen result.fresh result.transaction) words result.pass.words st r }
     {
-        State {
-            pass,
-            seen: seen.max(version),
-            fresh,
-            transaction,
-        }
+        let mut session = self;
+        session.seen = session.seen.max(version);
+        session
     }
 }

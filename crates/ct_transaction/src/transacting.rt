@@ -49,9 +49,9 @@ pub fn transact<N: Site, R: Threads + Wait + Sync>(
     ensures executes { Executes N.log.cap (state_of session.pass session.seen session.fresh session.transaction) (state_of result.0.pass result.0.seen result.0.fresh result.0.transaction) session.pass.words result.0.pass.words statement.now result.1 }
 {
     match statement {
-        Statement::Begin => refused_here(session, statement, Refusal::InTransaction),
-        Statement::Commit => commit(rt, alloc, server, session, statement),
-        Statement::Rollback => roll_back(session, statement),
+        Statement::Begin => refused_here(session, Refusal::InTransaction),
+        Statement::Commit => commit(rt, alloc, server, session),
+        Statement::Rollback => roll_back(session),
         _ => within(rt, alloc, server.arena(), session, workers, statement),
     }
 }

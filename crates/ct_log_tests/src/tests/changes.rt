@@ -5,7 +5,7 @@ ghost use mathlib.Core.List.{IsPrefix};
 ghost use Rattle.ct_word.specs.declared.kinds.Class.TheVariants as class;
 ghost use Rattle.ct_word.specs.WellFormed.{is_place_of};
 ghost use Rattle.ct_query.specs.Fields.{FitsFields};
-ghost use Rattle.ct_history.specs.Kept.{kept_of};
+ghost use Rattle.ct_condition.specs.Writes.{kept_of};
 ghost use Rattle.ct_history.specs.Rows.{IsRowOf};
 
 use ct_arena::{Arena, Pass, Site};

@@ -6,7 +6,7 @@ ghost use Rattle.ct_word.specs.declared.kinds.Class.TheVariants as class;
 ghost use Rattle.ct_word.specs.WellFormed.{IsWellFormed, is_place_of};
 ghost use Rattle.ct_query.specs.Views.{action_of};
 ghost use Rattle.ct_history.specs.Encodes.{AreHanded, IsEncodable};
-ghost use Rattle.ct_history.specs.Kept.{kept_of};
+ghost use Rattle.ct_condition.specs.Writes.{kept_of};
 ghost use Rattle.ct_history.specs.Rows.{IsRowOf};
 
 use crate::tests::changes::placed;

@@ -29,7 +29,7 @@ each_certain-requires-clause-pool g c =
 pub each_certain-requires-clause-sure : goal.each_certain-requires-clause-sure
 each_certain-requires-clause-sure g c =
     subst (λ ws. All (IsSure ws c.args.table.now.rows) c.in_ok-sure.sure.keys) c.words-words.ensures.words
-    (subst (λ rs. All (IsSure c.words-words.result.now rs) c.in_ok-sure.sure.keys) c.as_slice-rows.ensures c.in_ok-sure.ensures)
+    (subst (λ rs. All (IsSure c.words-words.result.now rs) c.in_ok-sure.sure.keys) c.as_slice-rows.ensures c.in_ok-sure.ensures.sure)
 
 pub returns-clause-lists : goal.returns-clause-lists
 returns-clause-lists g c =

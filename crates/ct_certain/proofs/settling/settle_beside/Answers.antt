@@ -6,7 +6,7 @@ use Rattle.ct_certain.proofs.settling.settle_beside.Goals as goal
 pub decide_near-requires-clause-beside : goal.decide_near-requires-clause-beside
 decide_near-requires-clause-beside c =
     subst (AreBeside c.args.words.now c.args.root c.args.global) (sym c.as_slice.ensures.value)
-    (subst (λ o. IfSome o (λ others. AreBeside c.args.words.now c.args.root c.args.global others.items)) c.in-Some.is c.in_ok-own.ensures.beside)
+    (subst (λ o. IfSome o (λ others. AreBeside c.args.words.now c.args.root c.args.global others.now.items)) c.in-Some.is c.requires.own)
 
 pub returns-in_default-clause-decided : goal.returns-in_default-clause-decided
 returns-in_default-clause-decided c =

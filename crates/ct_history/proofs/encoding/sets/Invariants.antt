@@ -1,6 +1,7 @@
 use Rattle.std.{proofs.Common.{◌<◌, ◌^◌, ◌+◌, take, false}, specs.Prelude.{IsTrue, sum_by}}
 use Rattle.ct_word.{specs.Reading.IsSetList, specs.Stands.StandsAt, specs.WellFormed.is_place_of}
-use Rattle.ct_history.{specs.Encodes.set_words, specs.Kept.PassWrites}
+use Rattle.ct_condition.specs.Writes.{PassWrites}
+use Rattle.ct_history.specs.Encodes.{set_words}
 use Rattle.ct_word.specs.declared.kinds.Class.TheVariants as class
 use Rattle.ct_history.proofs.encoding.sets.Given as goal
 

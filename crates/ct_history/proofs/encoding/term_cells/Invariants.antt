@@ -1,7 +1,7 @@
 use Rattle.std.{proofs.Common.{◌<◌, ◌+◌, ◌^◌, take, false}, specs.Prelude.{IsTrue, sum_by}}
 use Rattle.ct_word.{specs.Reading.IsRow, specs.Stands.StandsAt, specs.WellFormed.is_place_of}
 use Rattle.ct_query.specs.Bounds.{literal_words}
-use Rattle.ct_history.specs.Kept.{PassWrites}
+use Rattle.ct_condition.specs.Writes.{PassWrites}
 use Rattle.ct_word.specs.declared.kinds.Class.TheVariants as class
 use Rattle.ct_history.proofs.encoding.term_cells.Given as goal
 

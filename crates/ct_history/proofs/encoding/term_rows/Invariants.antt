@@ -1,6 +1,7 @@
 use Rattle.std.{proofs.Common.{◌+◌, take, map, false}, specs.Prelude.sum_by}
 use Rattle.ct_word.specs.Reading.{condition_at}
-use Rattle.ct_history.{specs.Encodes.term_row_words, specs.Kept.PassWrites, specs.Rows.{AreRowsAt, IsNoRow, row_under}}
+use Rattle.ct_condition.specs.Writes.{PassWrites}
+use Rattle.ct_history.{specs.Encodes.term_row_words, specs.Rows.{AreRowsAt, IsNoRow, row_under}}
 use Rattle.ct_history.proofs.encoding.term_rows.Given as goal
 
 abbrev pub invariant-loop-row : goal.invariant-loop-row

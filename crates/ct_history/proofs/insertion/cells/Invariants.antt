@@ -1,6 +1,6 @@
 use Rattle.std.{proofs.Common.{◌<◌, ◌^◌, take, map, false}, specs.Prelude.IsTrue}
 use Rattle.ct_word.{specs.Reading.{IsRow, term_at}, specs.Stands.StandsAt, specs.WellFormed.is_place_of}
-use Rattle.ct_history.specs.Kept.{PassWrites}
+use Rattle.ct_condition.specs.Writes.{PassWrites}
 use Rattle.ct_word.specs.declared.kinds.Class.TheVariants as class
 use Rattle.ct_history.proofs.insertion.cells.Given as goal
 

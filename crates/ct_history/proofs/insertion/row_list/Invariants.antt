@@ -1,6 +1,7 @@
 use Rattle.std.{proofs.Common.{◌+◌, take, map, false}, specs.Prelude.sum_by}
 use Rattle.ct_word.specs.Reading.{plain_crow}
-use Rattle.ct_history.{specs.Encodes.row_words, specs.Kept.PassWrites, specs.Rows.{AreRowsAt, IsNoRow}}
+use Rattle.ct_condition.specs.Writes.{PassWrites}
+use Rattle.ct_history.{specs.Encodes.row_words, specs.Rows.{AreRowsAt, IsNoRow}}
 use Rattle.ct_history.proofs.insertion.row_list.Given as goal
 
 abbrev pub invariant-loop-row : goal.invariant-loop-row

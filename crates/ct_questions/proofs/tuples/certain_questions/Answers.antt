@@ -25,7 +25,7 @@ candidates_in-requires-clause-asked g c =
 pub candidates_in-requires-clause-sure : goal.candidates_in-requires-clause-sure
 candidates_in-requires-clause-sure g c =
     let rows = c.args.table.now.rows in
-    subst (λ ws. All (IsSure ws rows) c.in_ok-sure.sure.keys) c.words-2.ensures.words (subst (λ rs. All (IsSure c.words-2.result.now rs) c.in_ok-sure.sure.keys) c.as_slice-rows.ensures c.in_ok-sure.ensures)
+    subst (λ ws. All (IsSure ws rows) c.in_ok-sure.sure.keys) c.words-2.ensures.words (subst (λ rs. All (IsSure c.words-2.result.now rs) c.in_ok-sure.sure.keys) c.as_slice-rows.ensures c.in_ok-sure.ensures.sure)
 
 pub returns-clause-candidates : goal.returns-clause-candidates
 returns-clause-candidates g c =

@@ -1,5 +1,6 @@
-use Rattle.std.{proofs.Common.{◌≡◌, Bool, not, ap, sym, subst, ◌∙◌}, specs.List.AllByRecursion, specs.Ordering.nat_cmp, specs.BTreeMap.get, specs.Prelude.{if◌then◌else◌}}
-use Rattle.ct_rewrite.{specs.Below.HasAt, specs.Signs.{IsFormAt, named_by, number, is_plus, connective_for}, proofs.Results.IfOk-both, proofs.Shaped.shaped_as, proofs.Closing.found_at}
+use Rattle.std.{proofs.Common.{◌≡◌, Bool, not, ap, sym, subst, ◌∙◌}, specs.List.AllByRecursion, specs.Prelude.{if◌then◌else◌}}
+use Rattle.ct_worlds.proofs.Shaped.{shaped_as}
+use Rattle.ct_rewrite.{specs.Below.{HasAt, position_at}, specs.Signs.{IsFormAt, named_by, number, is_plus, connective_for}, proofs.Results.IfOk-both}
 use Rattle.ct_rewrite.proofs.Signs.{literal_form, form_of, denied_form, joined_form}
 use Rattle.ct_rewrite.proofs.forms.form_at.Goals.{then-sign, else-sign}
 use Rattle.ct_rewrite.proofs.forms.form_at.Goals as goal
@@ -37,8 +38,8 @@ returns-in-Not-clause-form c =
     let is = shaped_as ws _ c.requires.formed c.requires.condition c.shape_at.ensures c.in-Not.is in
     let have = subst (λ s. AllByRecursion (HasAt (IsFormAt ws now) forms) (named_by (is_plus k) s)) (sym c.shape_at.ensures ∙ c.in-Not.is) c.requires.parts in
     let key = c.signed.ensures ∙ ap (λ b. number part (not b)) c.is_plus-sign.ensures in
-    denied_form ws now k c.index.result.now part is.condition
-    (found_at (IsFormAt ws now) forms (number part (not (is_plus k))) _ (ap (get nat_cmp forms) (sym key) ∙ c.index.ensures) have.0)
+    let form = position_at forms (number part (not (is_plus k))) in
+    subst (IsFormAt ws now k) (sym (c.at.ensures ∙ ap (position_at forms) key)) (denied_form ws now k form part is.condition have.0)
 
 pub returns-in-Joined-clause-form : goal.returns-in-Joined-clause-form
 returns-in-Joined-clause-form c =
@@ -50,9 +51,9 @@ returns-in-Joined-clause-form c =
     let have = subst (λ s. AllByRecursion (HasAt (IsFormAt ws now) forms) (named_by (is_plus k) s)) (sym c.shape_at.ensures ∙ c.in-Joined.is) c.requires.parts in
     let left_key = c.signed-in-Joined.ensures ∙ ap (number c.in-Joined.left) c.is_plus-sign.ensures in
     let right_key = c.signed-in-Joined-2.ensures ∙ ap (number c.in-Joined.right) c.is_plus-sign.ensures in
-    let left = found_at (IsFormAt ws now) forms (number c.in-Joined.left (is_plus k)) _ (ap (get nat_cmp forms) (sym left_key) ∙ c.index-left.ensures) have.0 in
-    let right = found_at (IsFormAt ws now) forms (number c.in-Joined.right (is_plus k)) _ (ap (get nat_cmp forms) (sym right_key) ∙ c.index-right.ensures) have.1.0 in
+    let left = subst (IsFormAt ws now (number c.in-Joined.left (is_plus k))) (sym (c.at-left.ensures ∙ ap (position_at forms) left_key)) have.0 in
+    let right = subst (IsFormAt ws now (number c.in-Joined.right (is_plus k))) (sym (c.at-right.ensures ∙ ap (position_at forms) right_key)) have.1.0 in
     let under = c.connective_for.ensures ∙ ap (λ s. connective_for s c.in-Joined.connective) c.is_plus-sign.ensures in
     IfOk-both c.joined.result _ _ _
-    (λ m. joined_form ws now c.joined.new.self k c.in-Joined.left c.in-Joined.right c.index-left.result.now c.index-right.result.now m c.in-Joined.connective _ is.condition left right under)
+    (λ m. joined_form ws now c.joined.new.self k c.in-Joined.left c.in-Joined.right c.at-left.result c.at-right.result m c.in-Joined.connective _ is.condition left right under)
     c.joined.ensures.says c.joined.ensures.fits

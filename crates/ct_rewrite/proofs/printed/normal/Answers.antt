@@ -1,9 +1,9 @@
 use Rattle.std.{proofs.Common.{◌∙◌, ◌≤◌, ◌^◌, List, length, refl, subst, sym, arith}, specs.Prelude.IsTrue, specs.List.{IsDistinct, list_all}, proofs.lemmas.Bool.lt-ltb, proofs.lemmas.Result.IfOk-weaker}
 use Rattle.ct_word.{proofs.Items.all_implied, proofs.Growth.place_within, specs.Condition.SameTruth, specs.WellFormed.is_place_of}
 use Rattle.ct_word.specs.declared.kinds.Class.TheVariants as class
-use Rattle.ct_rewrite.{specs.declared.answer.Node.Node, specs.Nodes.same_node, specs.Rules.is_proper, specs.Below.has, specs.Signs.IsFormAt}
+use Rattle.ct_rewrite.{specs.declared.answer.Node.Node, specs.Nodes.same_node, specs.Rules.is_proper, specs.Below.has}
 use Rattle.ct_rewrite.{specs.Sizes.{deep, nest_of, text_of, wide}, proofs.AllTrue.{one_distinct, zeros_are, zeros_are_placed}, proofs.Results.IfOk-both}
-use Rattle.ct_rewrite.{specs.Signs.is_number, proofs.Signs.{numbers_downward, roots_inside}, proofs.Closing.{there_have, all_have}}
+use Rattle.ct_rewrite.{specs.Signs.is_number, proofs.Signs.{numbers_downward, roots_inside}}
 use Rattle.ct_rewrite.proofs.Conditions.{roots_placed, normal_truth, normal_wide, normal_deep, kept_placed}
 use Rattle.ct_rewrite.proofs.Rules.{children_within, children_distinct, sides_in_order, unsettled}
 use Rattle.ct_rewrite.proofs.printed.normal.Goals as goal
@@ -19,15 +19,10 @@ pub below-requires-clause-roots : goal.below-requires-clause-roots
 below-requires-clause-roots c =
     subst (λ ks. IsTrue (list_all (is_number c.args.words.now) ks)) (sym (c.as_slice-roots.ensures.value ∙ c.in_ok-numbered.ensures)) (roots_inside c.args.words.now c.args.roots.now c.requires.roots)
 
-pub positions-requires : goal.positions-requires
-positions-requires c =
-    all_have (IsFormAt c.args.words.now _) c.in_ok-forms.forms _
-    (there_have (IsFormAt c.args.words.now _) c.in_ok-forms.forms (has c.in_ok-wanted.wanted) c.in_ok-forms.ensures.forms _ c.in_ok-wanted.ensures.roots)
-
 pub kept-requires-clause-roots : goal.kept-requires-clause-roots
 kept-requires-clause-roots c =
-    roots_placed c.args.words.now _ c.nodes.result.now c.in_ok-forms.forms (has c.in_ok-wanted.wanted) c.args.roots.now c.as_slice-roots.result.now c.as_slice.result.now
-    c.in_ok-forms.ensures.forms (c.as_slice-roots.ensures.value ∙ c.in_ok-numbered.ensures) c.in_ok-wanted.ensures.roots c.nodes.ensures.value (c.as_slice.ensures.value ∙ c.in_ok-positions.ensures)
+    roots_placed c.args.words.now _ c.nodes.result.now c.in_ok-forms.forms (has c.in_ok-wanted.wanted.items) c.args.roots.now c.as_slice-roots.result.now c.as_slice-2.result.now
+    (rw c.as_slice.ensures.value at c.in_ok-forms.ensures.forms) (c.as_slice-roots.ensures.value ∙ c.in_ok-numbered.ensures) c.in_ok-wanted.ensures.roots c.nodes.ensures.value (c.as_slice-2.ensures.value ∙ c.in_ok-positions.ensures)
 
 pub returns-then-is_plain-clause-truth : goal.returns-then-is_plain-clause-truth
 returns-then-is_plain-clause-truth c =
@@ -60,22 +55,22 @@ returns-then-is_plain-clause-distinct c =
 pub returns-clause-truth : goal.returns-clause-truth
 returns-clause-truth c =
     IfOk-weaker c.kept.result _ _
-    (λ n. normal_truth c.args.words.now _ c.nodes.result.now c.in_ok-forms.forms (has c.in_ok-wanted.wanted) c.args.roots.now c.as_slice-roots.result.now c.as_slice.result.now
-    c.in_ok-forms.ensures.forms (c.as_slice-roots.ensures.value ∙ c.in_ok-numbered.ensures) c.in_ok-wanted.ensures.roots c.nodes.ensures.value (c.as_slice.ensures.value ∙ c.in_ok-positions.ensures) n.nodes n.roots)
+    (λ n. normal_truth c.args.words.now _ c.nodes.result.now c.in_ok-forms.forms (has c.in_ok-wanted.wanted.items) c.args.roots.now c.as_slice-roots.result.now c.as_slice-2.result.now
+    (rw c.as_slice.ensures.value at c.in_ok-forms.ensures.forms) (c.as_slice-roots.ensures.value ∙ c.in_ok-numbered.ensures) c.in_ok-wanted.ensures.roots c.nodes.ensures.value (c.as_slice-2.ensures.value ∙ c.in_ok-positions.ensures) n.nodes n.roots)
     c.kept.ensures.kept
 
 pub returns-clause-wide : goal.returns-clause-wide
 returns-clause-wide c =
     IfOk-weaker c.kept.result _ _
-    (λ n kept. normal_wide c.args.words.now _ c.nodes.result.now c.in_ok-forms.forms (has c.in_ok-wanted.wanted) c.args.roots.now c.as_slice-roots.result.now c.as_slice.result.now
-    c.in_ok-forms.ensures.forms (c.as_slice-roots.ensures.value ∙ c.in_ok-numbered.ensures) c.in_ok-wanted.ensures.roots c.nodes.ensures.value (c.as_slice.ensures.value ∙ c.in_ok-positions.ensures) n.nodes n.roots kept)
+    (λ n kept. normal_wide c.args.words.now _ c.nodes.result.now c.in_ok-forms.forms (has c.in_ok-wanted.wanted.items) c.args.roots.now c.as_slice-roots.result.now c.as_slice-2.result.now
+    (rw c.as_slice.ensures.value at c.in_ok-forms.ensures.forms) (c.as_slice-roots.ensures.value ∙ c.in_ok-numbered.ensures) c.in_ok-wanted.ensures.roots c.nodes.ensures.value (c.as_slice-2.ensures.value ∙ c.in_ok-positions.ensures) n.nodes n.roots kept)
     c.kept.ensures.kept
 
 pub returns-clause-deep : goal.returns-clause-deep
 returns-clause-deep c =
     IfOk-weaker c.kept.result _ _
-    (λ n. normal_deep c.args.words.now _ c.nodes.result.now c.in_ok-forms.forms (has c.in_ok-wanted.wanted) c.args.roots.now c.as_slice-roots.result.now c.as_slice.result.now
-    c.in_ok-forms.ensures.forms (c.as_slice-roots.ensures.value ∙ c.in_ok-numbered.ensures) c.in_ok-wanted.ensures.roots c.nodes.ensures.value (c.as_slice.ensures.value ∙ c.in_ok-positions.ensures) n.nodes n.roots)
+    (λ n. normal_deep c.args.words.now _ c.nodes.result.now c.in_ok-forms.forms (has c.in_ok-wanted.wanted.items) c.args.roots.now c.as_slice-roots.result.now c.as_slice-2.result.now
+    (rw c.as_slice.ensures.value at c.in_ok-forms.ensures.forms) (c.as_slice-roots.ensures.value ∙ c.in_ok-numbered.ensures) c.in_ok-wanted.ensures.roots c.nodes.ensures.value (c.as_slice-2.ensures.value ∙ c.in_ok-positions.ensures) n.nodes n.roots)
     c.kept.ensures.kept
 
 pub returns-clause-placed : goal.returns-clause-placed

@@ -1,22 +1,16 @@
 use Rattle.std.proofs.Common.{ap, arith, refl}
 use Rattle.ct_word.proofs.Prefixes.{prefix_same}
 use Rattle.ct_condition.specs.Writes.{charge}
-use Rattle.ct_query.{specs.Schema.schema, specs.Views.statement_of}
-use Rattle.ct_statement.specs.Sight.{actions_before, history_of}
-use Rattle.ct_session.{specs.Offering.idle, proofs.Again.{insertion_plain, insertion_rows, rows_literal}, proofs.Asked.{offer_asked, want_asked}, proofs.Outside.refused_on, proofs.StillKnown.{known_stays, nothing_known, seen_longer}}
+use Rattle.ct_query.specs.Views.{action_of}
+use Rattle.ct_query.specs.Plain as plain
+use Rattle.ct_session.{specs.Offering.idle, proofs.Again.rows_literal, proofs.Asked.{offer_asked, want_asked}, proofs.Outside.refused_on, proofs.StillKnown.{known_stays, nothing_known, seen_longer}}
 use Rattle.ct_session.proofs.inserting.asked.Goals as goal
 
-pub resolved_at-requires-clause-plain : goal.resolved_at-requires-clause-plain
-resolved_at-requires-clause-plain g c = insertion_plain c.args.statement.now c.requires.insertion
-
 pub literal_offer-offering-requires-clause-found : goal.literal_offer-offering-requires-clause-found
-literal_offer-offering-requires-clause-found g c = record { sight = c.args.sight; sees = c.requires.sees; base_is = refl; found = c.in-Ok.ensures.ok }
+literal_offer-offering-requires-clause-found g c = (c.args.statement.now, c.in-Ok.ensures.found)
 
 pub literal_offer-offering-requires-clause-literal : goal.literal_offer-offering-requires-clause-literal
-literal_offer-offering-requires-clause-literal g c =
-    let words = c.args.pass.now.words in
-    let asked = statement_of c.in-Ok.found.0 in
-    rows_literal asked (insertion_rows (schema (history_of words c.args.sight) (actions_before c.args.sight)) c.args.pass.now.session c.args.fresh c.args.statement.now asked c.requires.insertion c.in-Ok.ensures.ok.resolves)
+literal_offer-offering-requires-clause-literal g c = rows_literal (plain.Act (action_of c.in-Ok.action)) c.in-Ok.ensures.rows
 
 pub returns-in-Err-clause-known : goal.returns-in-Err-clause-known
 returns-in-Err-clause-known g c = nothing_known c.args.pass.now.words c.args.known.now c.requires.known
@@ -48,12 +42,12 @@ pub returns-in-Ok-offering-clause-asks : goal.returns-in-Ok-offering-clause-asks
 returns-in-Ok-offering-clause-asks g c =
     let now = c.literal_offer-offering in
     let made = c.in-Ok-offering in
-    offer_asked g.N.Site.log.cap c.args.pass.now now.new.pass now.ensures.longer now.ensures.kept c.args.sight c.requires.sees c.args.fresh c.args.statement.now (statement_of c.in-Ok.found.0) c.in-Ok.ensures.ok
-    made.offering made.ensures.base made.ensures.ok made.ensures.made
+    offer_asked g.N.Site.log.cap c.args.pass.now now.new.pass now.ensures.longer now.ensures.kept c.args.sight c.requires.sees c.args.fresh c.args.statement.now (plain.Act (action_of c.in-Ok.action)) c.in-Ok.ensures.resolved
+    made.offering made.ensures.base (made.ensures.ok c.args.statement.now c.in-Ok.ensures.found) made.ensures.made
 
 pub returns-in-Err-offering-clause-asks : goal.returns-in-Err-offering-clause-asks
 returns-in-Err-offering-clause-asks g c =
     let now = c.literal_offer-offering in
     let made = c.in-Err-offering in
-    want_asked g.N.Site.log.cap c.args.pass.now now.new.pass now.ensures.longer now.ensures.kept c.args.sight c.requires.sees c.args.fresh c.args.statement.now (statement_of c.in-Ok.found.0) c.in-Ok.ensures.ok
-    made.why made.ensures.want made.ensures.err made.ensures.made
+    want_asked g.N.Site.log.cap c.args.pass.now now.new.pass now.ensures.longer now.ensures.kept c.args.sight c.requires.sees c.args.fresh c.args.statement.now (plain.Act (action_of c.in-Ok.action)) c.in-Ok.ensures.resolved
+    made.why made.ensures.want (made.ensures.err c.args.statement.now c.in-Ok.ensures.found) made.ensures.made

@@ -29,17 +29,17 @@ returns-in-Ok-Answer-clause-done g c = λ first st began asks.
     let seen = c.requires.seen in
     let within = c.requires.within in
     record {
-      session = c.carrying-session.ensures.session (record { seen_is = omega (arith, seen, within); open_is = tt });
-      makes = subst (λ (p : Seen). Makes (state_of first s.seen s.fresh None) p.words st first.made (p.made + charge (is_full said))) (sym c.carrying-session.ensures.pass)
+      session = c.carrying.ensures.session (record { seen_is = omega (arith, seen, within); open_is = tt });
+      makes = subst (λ (p : Seen). Makes (state_of first s.seen s.fresh None) p.words st first.made (p.made + charge (is_full said))) (sym c.carrying.ensures.pass)
           (readies_makes first s.seen s.fresh now at st (now.made + charge (is_full said)) seen within began.kept
           (readies_less now.words at now.session s.fresh st first.made (now.made + 0) (now.made + charge (is_full said)) (omega (arith, room)) asked.readies));
       unasked = never_both (is_unasked said) (ap is_unasked c.reply_of.ensures ∙ answered_asked at 0 given);
-      executes = c.carrying-session.ensures.executes N (state_of first s.seen s.fresh None) first.words st said
+      executes = c.carrying.ensures.executes N (state_of first s.seen s.fresh None) first.words st said
           (answered_outside N first now s.seen s.fresh at began c.words-words.ensures.room c.words-words.ensures.numbered within seen st given answer.0 answer.1 said c.reply_of.ensures);
     }
 
 pub returns-in-Ok-Answer-clause-stays : goal.returns-in-Ok-Answer-clause-stays
-returns-in-Ok-Answer-clause-stays g c = λ s is. subst (λ p. IsSight p.words s) (sym c.carrying-session.ensures.pass) is
+returns-in-Ok-Answer-clause-stays g c = λ s is. subst (λ p. IsSight p.words s) (sym c.carrying.ensures.pass) is
 
 pub returns-in-Ok-Offer-clause-done : goal.returns-in-Ok-Offer-clause-done
 returns-in-Ok-Offer-clause-done g c = λ first st began asks.

@@ -1,7 +1,7 @@
 use Rattle.std.{proofs.Common.{◌∙◌, ap, false, length, map, subst, sym}, proofs.lemmas.Bool.false≢true, specs.Prelude.{◌≤◌, Err}}
 use Rattle.ct_query.{specs.Bounds.nodes, specs.Fits.{Fits, width}, specs.Patterns.count, specs.Size.{rows_in, row_bound}, specs.Views.query_of}
 use Rattle.ct_condition.proofs.Writes.{writes_within}
-use Rattle.ct_history.specs.Kept.{PassWrites}
+use Rattle.ct_condition.specs.Writes.{PassWrites}
 use Rattle.ct_table.{specs.Counting.count_of, specs.Denotes.Denotes}
 use Rattle.ct_operators.specs.Tables.{AreRows}
 use Rattle.ct_algebra.proofs.Counted.{rows_within}

@@ -1,7 +1,7 @@
 use Rattle.std.{proofs.Common.{inl, inr, ap, Ok, Err, ℕ, ◌≡◌, ◌≤◌, ◌<◌, ◌*◌, Some, false, length, sym, subst}, specs.Prelude.{All, IsSome, Result}, proofs.lemmas.Bool.cases_lt, proofs.lemmas.Result.err_from_is_err_and}
-use Rattle.ct_query.{specs.Assertions.is_key}
+use Rattle.ct_query.specs.Assertions.{is_key}
 use Rattle.ct_condition.proofs.Writes.{writes_none, writes_within}
-use Rattle.ct_history.specs.Kept.{PassWrites}
+use Rattle.ct_condition.specs.Writes.{PassWrites}
 use Rattle.ct_operators.{specs.Building.HoldsWhere, specs.Tables.{value_of_rows}}
 use Rattle.ct_table.{specs.Denotes.find_table, specs.Shared.view_of}
 use Rattle.ct_algebra.specs.Evaluates.{limit}

@@ -1,6 +1,6 @@
 use Rattle.std.proofs.Common.{◌≤◌, false, length, refl, subst, sym}
 use Rattle.ct_condition.proofs.Writes.{writes_none}
-use Rattle.ct_history.specs.Kept.{PassWrites}
+use Rattle.ct_condition.specs.Writes.{PassWrites}
 use Rattle.ct_query.specs.Patterns.{count}
 use Rattle.ct_query.specs.Schema.{schema}
 use Rattle.ct_query.specs.Views.{action_of, query_of}

@@ -2,7 +2,7 @@ use Rattle.std.{proofs.Common.{◌∙◌, List, [], false, ap, arith, length, re
 use Rattle.ct_word.specs.WellFormed.{is_place_of}
 use Rattle.ct_query.{specs.Bounds.bound, specs.Patterns.count, specs.Schema.schema, specs.Views.query_of}
 use Rattle.ct_condition.proofs.Writes.{writes_both, writes_within}
-use Rattle.ct_history.specs.Kept.{PassWrites}
+use Rattle.ct_condition.specs.Writes.{PassWrites}
 use Rattle.ct_rewrite.specs.declared.answer.{CertainRow.CertainRow, PossibleRow.PossibleRow}
 use Rattle.ct_operators.specs.Tables.{AreRows}
 use Rattle.ct_table.proofs.Snapshots.{kept_grows}

@@ -2,7 +2,8 @@ use Rattle.std.{proofs.Common.{◌≡◌, ◌++◌, ◌∷◌, [], false, ap, su
 use Rattle.ct_condition.proofs.Writes.{writes_none, writes_within}
 use Rattle.ct_word.specs.Reading.{change_list_at}
 use Rattle.ct_query.specs.Views.{action_of}
-use Rattle.ct_history.{specs.Kept.PassWrites, specs.Written.{IsWritten, plain_written}}
+use Rattle.ct_condition.specs.Writes.{PassWrites}
+use Rattle.ct_history.{specs.Written.{IsWritten, plain_written}}
 use Rattle.ct_keeper.specs.Effects.{DoesChange, effect_words}
 use Rattle.ct_keeper.specs.declared.effects.Effect.{Effect}
 use Rattle.ct_statement.{specs.Making.says_full, proofs.Making.unapplied_full, proofs.Stepped.{effect_is, effect_light}}

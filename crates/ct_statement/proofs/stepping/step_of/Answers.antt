@@ -1,7 +1,7 @@
 use Rattle.std.{proofs.Common.{subst, sym}, specs.{Arc.arc_value, Prelude.IsTrue}}
 use Rattle.ct_word.{specs.Condition.holds_at, specs.Reading.condition_at}
 use Rattle.ct_query.specs.Views.{action_of}
-use Rattle.ct_history.specs.Kept.{PassWrites}
+use Rattle.ct_condition.specs.Writes.{PassWrites}
 use Rattle.ct_statement.{specs.Narrowing.{CanNarrow, IsKeptFor, IsUnkept}, proofs.Stepped.{can_narrow, kept_holds, step_made, unkept_unmet}}
 use Rattle.ct_statement.{specs.Sight.{actions_before, history_of}, proofs.Narrow.proposed_narrow}
 use Rattle.ct_statement.proofs.Making.{unkept_room}

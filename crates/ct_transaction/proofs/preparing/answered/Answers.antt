@@ -11,7 +11,7 @@ answer_to-answered-requires-clause-named g c κs within = c.requires.asks.fits.1
 
 pub returns-in-Ok : goal.returns-in-Ok
 returns-in-Ok g c = λ inside list fresh.
-    record { longer = c.answer_to-answered.ensures.writes.longer; kept = c.answer_to-answered.ensures.writes.kept; made = c.in-Ok.ensures.writes.made; ok = (c.in-Ok.ensures.ok, c.requires.asks.reads_are); steps = tt; err = tt }
+    record { longer = c.answer_to-answered.ensures.writes.longer; kept = c.answer_to-answered.ensures.writes.kept; made = c.in-Ok.ensures.writes.made; ok = c.in-Ok.ensures.ok; steps = tt; err = tt }
 
 pub returns-in-Err : goal.returns-in-Err
 returns-in-Err g c = λ inside list fresh.

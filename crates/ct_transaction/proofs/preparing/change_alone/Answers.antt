@@ -14,7 +14,7 @@ pub step_of_assertion-step-requires-clause-proposal : goal.step_of_assertion-ste
 step_of_assertion-step-requires-clause-proposal g c =
     let asks = c.requires.asks in
     let made = c.in-Ok.ensures in
-    ([], proposed_there g.N.Site.log.cap c.args.pass.now c.propose.new.pass c.propose.ensures.writes.longer c.propose.ensures.writes.kept c.args.sight.now asks.sight.within None c.args.fresh (action_of c.args.action) made.left c.in-Ok.proposal made.action made.fresh made.proposes c.args.reads asks.reads_are)
+    ([], proposed_there g.N.Site.log.cap c.args.pass.now c.propose.new.pass c.propose.ensures.writes.longer c.propose.ensures.writes.kept c.args.sight.now asks.sight.within None c.args.fresh (action_of c.args.action) made.left c.in-Ok.proposal made.action made.fresh made.proposes)
 
 pub returns-in-Err : goal.returns-in-Err
 returns-in-Err g c =
@@ -26,13 +26,13 @@ returns-in-Ok-step g c =
     let asks = c.requires.asks in
     let made = c.in-Ok.ensures in
     let now = c.step_of_assertion-step in
-    change_prepared g.N.Site.log.cap c.args.pass.now c.propose.new.pass c.propose.ensures.writes.longer c.propose.ensures.writes.kept c.args.sight.now asks.sight.within None c.args.fresh (action_of c.args.action) made.left c.in-Ok.proposal made.action made.fresh made.proposes c.args.reads asks.reads_are
-    false now.new.pass now.ensures.longer now.ensures.kept c.in-Ok-step.step c.in-Ok-step.ensures.step (c.in-Ok-step.ensures.needs c.args.reads) c.in-Ok-step.ensures.made
+    change_prepared g.N.Site.log.cap c.args.pass.now c.propose.new.pass c.propose.ensures.writes.longer c.propose.ensures.writes.kept c.args.sight.now asks.sight.within None c.args.fresh (action_of c.args.action) made.left c.in-Ok.proposal made.action made.fresh made.proposes
+    false now.new.pass now.ensures.longer now.ensures.kept c.in-Ok-step.step c.in-Ok-step.ensures.step c.in-Ok-step.ensures.needs c.in-Ok-step.ensures.made
 
 pub returns-in-Err-step : goal.returns-in-Err-step
 returns-in-Err-step g c =
     let asks = c.requires.asks in
     let made = c.in-Ok.ensures in
     let now = c.step_of_assertion-step in
-    change_unmet g.N.Site.log.cap c.args.pass.now c.propose.new.pass c.propose.ensures.writes.longer c.propose.ensures.writes.kept c.args.sight.now asks.sight.within None c.args.fresh (action_of c.args.action) made.left c.in-Ok.proposal made.action made.fresh made.proposes c.args.reads asks.reads_are
+    change_unmet g.N.Site.log.cap c.args.pass.now c.propose.new.pass c.propose.ensures.writes.longer c.propose.ensures.writes.kept c.args.sight.now asks.sight.within None c.args.fresh (action_of c.args.action) made.left c.in-Ok.proposal made.action made.fresh made.proposes
     false now.new.pass now.ensures.longer now.ensures.kept c.in-Err-step.why c.in-Err-step.ensures.err c.in-Err-step.ensures.made

@@ -14,7 +14,7 @@ pub step_of-step-requires-clause-proposal : goal.step_of-step-requires-clause-pr
 step_of-step-requires-clause-proposal g c =
     let asks = c.requires.asks in
     let made = c.in-Ok.ensures in
-    (listed c.args.pass.now.words c.args.list, proposed_there g.N.Site.log.cap c.args.pass.now c.propose.new.pass c.propose.ensures.writes.longer c.propose.ensures.writes.kept c.args.sight.now asks.sight.within c.args.list c.args.fresh (action_of c.args.action) made.left c.in-Ok.proposal made.action made.fresh made.proposes c.args.reads asks.reads_are)
+    (listed c.args.pass.now.words c.args.list, proposed_there g.N.Site.log.cap c.args.pass.now c.propose.new.pass c.propose.ensures.writes.longer c.propose.ensures.writes.kept c.args.sight.now asks.sight.within c.args.list c.args.fresh (action_of c.args.action) made.left c.in-Ok.proposal made.action made.fresh made.proposes)
 
 pub returns-in-Err : goal.returns-in-Err
 returns-in-Err g c =
@@ -26,7 +26,7 @@ returns-in-Ok-step g c =
     let asks = c.requires.asks in
     let made = c.in-Ok.ensures in
     let now = c.step_of-step in
-    change_prepared g.N.Site.log.cap c.args.pass.now c.propose.new.pass c.propose.ensures.writes.longer c.propose.ensures.writes.kept c.args.sight.now asks.sight.within c.args.list c.args.fresh (action_of c.args.action) made.left c.in-Ok.proposal made.action made.fresh made.proposes c.args.reads asks.reads_are
+    change_prepared g.N.Site.log.cap c.args.pass.now c.propose.new.pass c.propose.ensures.writes.longer c.propose.ensures.writes.kept c.args.sight.now asks.sight.within c.args.list c.args.fresh (action_of c.args.action) made.left c.in-Ok.proposal made.action made.fresh made.proposes
     true now.new.pass now.ensures.writes.longer now.ensures.writes.kept (Some c.in-Ok-step.step) c.in-Ok-step.ensures.step refl c.in-Ok-step.ensures.writes.made
 
 pub returns-in-Err-step : goal.returns-in-Err-step
@@ -34,5 +34,5 @@ returns-in-Err-step g c =
     let asks = c.requires.asks in
     let made = c.in-Ok.ensures in
     let now = c.step_of-step in
-    change_unmet g.N.Site.log.cap c.args.pass.now c.propose.new.pass c.propose.ensures.writes.longer c.propose.ensures.writes.kept c.args.sight.now asks.sight.within c.args.list c.args.fresh (action_of c.args.action) made.left c.in-Ok.proposal made.action made.fresh made.proposes c.args.reads asks.reads_are
+    change_unmet g.N.Site.log.cap c.args.pass.now c.propose.new.pass c.propose.ensures.writes.longer c.propose.ensures.writes.kept c.args.sight.now asks.sight.within c.args.list c.args.fresh (action_of c.args.action) made.left c.in-Ok.proposal made.action made.fresh made.proposes
     true now.new.pass now.ensures.writes.longer now.ensures.writes.kept c.in-Err-step.why c.in-Err-step.ensures.err c.in-Err-step.ensures.writes.made
